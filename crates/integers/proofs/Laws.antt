@@ -108,6 +108,7 @@ division-law a b = at (sameℤ (held b) (pos 0)) refl (sameℤ (remZ (held a) (h
   where
     apart : sameℤ (held b) (pos 0) ≡ false → held b ≡ pos 0 → ⊥
     apart f e = true≢false (sym (same-decides (held b) (pos 0) .1 e) ∙ f)
+
     at : (s : Bool) → sameℤ (held b) (pos 0) ≡ s → (t : Bool) → sameℤ (remZ (held a) (held b)) (pos 0) ≡ t → Division integers a b (cond s (Err ZeroDivisor) (cond t (Ok (record { figure = quotZ (held a) (held b) })) (Err NoQuotient)))
     at true e t d = by-zero (same-decides (held b) (pos 0) .0 e)
     at false e true d =

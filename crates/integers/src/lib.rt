@@ -73,7 +73,9 @@ pub impl Ring for Integer as IntegerRing {
     }
 
     fn negative(self) -> Integer {
-        Integer { figure: -member(self) }
+        Integer {
+            figure: -member(self),
+        }
     }
 
     fn multiple(self, n: u16) -> Result<Integer, Refusal> {

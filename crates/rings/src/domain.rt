@@ -4,8 +4,8 @@ ghost use mathlib.Core.Bool.{true};
 ghost use Rattle.std.specs.declared.result.Result.{Result as ResultOf};
 ghost use Rattle.refusals.specs.declared.Refusal.{Refusal as RefusalOf};
 ghost use Rattle.rings.specs.Kinds.{Division};
-use refusals::Refusal;
 use crate::ring::Ring;
+use refusals::Refusal;
 
 pub trait Domain: Ring {
     // what dividing the first by the second answers

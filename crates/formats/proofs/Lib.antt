@@ -1,0 +1,4 @@
+pub mod Walks
+pub mod Adding
+pub mod Keys
+pub mod Turns

@@ -1,0 +1,3 @@
+pub mod Variables
+pub mod Drafts
+pub mod Keys
