@@ -60,8 +60,8 @@ value-laws = record {
   means = λ m v e. let p = valued-ok m v e in ap held (p .0) ∙ cond-true (fits m) _ _ (p .1);
   unfit = λ m c e. valued-err m c e .0;
   contents = λ v. (record { figure = held v }, valued-fits (held v) (held-fits v));
-  zero = (record { figure = pos 0 }, refl);
-  one = (record { figure = pos 1 }, refl);
+  zero = refl;
+  one = refl;
   negative = λ m f. (record { figure = negℤ m }, valued-fits (negℤ m) (ap (λ n. leb n 134_217_727) (natAbs-negative m) ∙ valued-ok m (f .0) (f .1) .1));
 }
 

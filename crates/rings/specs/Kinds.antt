@@ -2,6 +2,7 @@
 --     Kind V          a kind whose values are held in contents of type V
 --     meaning v       the member that the content v means, whether or not v is a value
 --     value m         the one value of the member m, or Unfit where m does not fit
+--     zero-value, one-value    the values of zero and one
 --     count           how many figures write a value, one or two
 --     first, second   the figures of a content
 --     ranges          where the figures of a value lie
@@ -36,6 +37,8 @@ pub record Kind (V : Type 0) : Type 1 where
   pub ops : Ops
   pub meaning : V → ops .Member
   pub value : ops .Member → Result V Refusal
+  pub zero-value : V
+  pub one-value : V
   pub count : ℕ
   pub first : V → ℤ
   pub second : V → ℤ
@@ -52,8 +55,8 @@ pub record ValueLaws {V : Type 0} (K : Kind V) : Type 0 where
   pub means : (m : K .ops .Member) (v : V) → K .value m ≡ Ok v → K .meaning v ≡ m
   pub unfit : (m : K .ops .Member) (c : Refusal) → K .value m ≡ Err c → c ≡ Unfit
   pub contents : (v : V) → Fits K (K .meaning v)
-  pub zero : Fits K (K .ops .zero)
-  pub one : Fits K (K .ops .one)
+  pub zero : K .value (K .ops .zero) ≡ Ok (K .zero-value)
+  pub one : K .value (K .ops .one) ≡ Ok (K .one-value)
   pub negative : (m : K .ops .Member) → Fits K m → Fits K (K .ops .negative m)
 
 abbrev pub Within : Ranges → ℤ → ℤ → Bool

@@ -22,10 +22,10 @@ pub trait Ring: Copy {
     law wholeness: { whole ≡ true → NoZeroDivisors (kind .ops) };
 
     fn zero() -> Self
-        ensures { λ r. ⌜ Ok r ≡ kind .value (kind .ops .zero) ⌝ };
+        ensures { λ r. ⌜ r ≡ kind .zero-value ⌝ };
 
     fn one() -> Self
-        ensures { λ r. ⌜ Ok r ≡ kind .value (kind .ops .one) ⌝ };
+        ensures { λ r. ⌜ r ≡ kind .one-value ⌝ };
 
     fn is_zero(self) -> bool
         ensures { λ r. ⌜ r ≡ kind .ops .same (kind .meaning self) (kind .ops .zero) ⌝ };

@@ -1,0 +1,3 @@
+pub mod Passes
+pub mod Steps
+pub mod Merges
