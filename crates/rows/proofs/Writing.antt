@@ -1,6 +1,7 @@
 -- Writing over a part of a list. Assumes nothing.
 --     length-put       the length stays
 --     put-push         one more element
+--     put-none, put-one, put-all     no element, one, or as many as there are
 --     part-put         the part that was written
 --     part-put-apart   a part that was not
 --     put-over         what is written over is gone
@@ -11,9 +12,10 @@ use mathlib.Core.List.{List, [], _∷_, _++_}
 use mathlib.Core.Logic.{_⊎_, inl, inr, ⊎-elim}
 use Prim.Native.Nat.{ℕ, _+_, _-_, _<_, _≤_}
 use native.Mathlib.Nat.{add-zero}
+use native.Mathlib.Numerals.{add-one}
 use native.Mathlib.Omega.{arith}
 use lib.ListN.{length, take, drop, getD, set}
-use Rattle.std.proofs.shelf.Lists.{append-assoc, length-append, length-drop, length-take, length-take-le, take-append-drop, length-push, getD-take, getD-drop, getD-append-left, getD-append-right, drop-more, take-at, drop-at, set-at, same-lists}
+use Rattle.std.proofs.shelf.Lists.{append-nil, append-assoc, length-append, length-drop, length-take, length-take-le, take-append-drop, length-push, getD-take, getD-drop, getD-append-left, getD-append-right, drop-more, take-at, drop-at, drop-all, set-at, set-split, same-lists}
 use Rattle.std.proofs.shelf.Tests.{cases-lt}
 use Rattle.rows.specs.Lists.{part, put, Clear}
 
@@ -68,6 +70,12 @@ put-is xs at ys fits zs long before within after =
 
 pub put-none : {X : Type 0} (xs : List X) (at : ℕ) → put xs at [] ≡ xs
 put-none xs at = ap (λ n. take at xs ++ drop n xs) (add-zero at) ∙ take-append-drop at xs
+
+pub put-one : {X : Type 0} (xs : List X) (at : ℕ) (x : X) → at < length xs → set xs at x ≡ put xs at (x ∷ [])
+put-one xs at x h = set-split xs at x h ∙ ap (λ n. take at xs ++ x ∷ drop n xs) (sym (add-one at))
+
+pub put-all : {X : Type 0} (xs ys : List X) → length ys ≡ length xs → put xs 0 ys ≡ ys
+put-all xs ys e = ap (λ l. ys ++ l) (drop-all (0 + length ys) xs (omega arith)) ∙ append-nil ys
 
 pub part-same : {X : Type 0} (xs zs : List X) (a m : ℕ) → length zs ≡ length xs → ((k : ℕ) (d : X) → a ≤ k → k < a + m → getD zs k d ≡ getD xs k d) → part a m zs ≡ part a m xs
 part-same xs zs a m long same =

@@ -164,12 +164,12 @@ module _ {V : Type 0} (K : Kind V) (old : List (Row V)) (l₀ r₀ : Span) (at r
               many = omega arith;
               written = is ∙ ⊎-elim
                   (λ h.
-                      let short : take room o ≡ o = take-all room o (omega arith) in
-                      let longer : take room (o ++ x ∷ []) ≡ o ++ x ∷ [] = take-all room (o ++ x ∷ []) (omega arith) in
-                      let a = ok .area in
-                      cond-true (ltb count room) _ _ (lt-ltb count room h) ∙ (λ i. set ((inv .written ∙ ap (put old at) short) i) (at + n i) x) ∙ put-push old at o (omega arith) x (omega arith) ∙ ap (put old at) (sym longer))
+                  let short : take room o ≡ o = take-all room o (omega arith) in
+                  let longer : take room (o ++ x ∷ []) ≡ o ++ x ∷ [] = take-all room (o ++ x ∷ []) (omega arith) in
+                  let a = ok .area in
+                  cond-true (ltb count room) _ _ (lt-ltb count room h) ∙ (λ i. set ((inv .written ∙ ap (put old at) short) i) (at + n i) x) ∙ put-push old at o (omega arith) x (omega arith) ∙ ap (put old at) (sym longer))
                   (λ h.
-                      cond-false (ltb count room) _ _ (le-ltb count room h) ∙ inv .written ∙ ap (put old at) (sym (take-append-le room o (x ∷ []) (omega arith))))
+                  cond-false (ltb count room) _ _ (le-ltb count room h) ∙ inv .written ∙ ap (put old at) (sym (take-append-le room o (x ∷ []) (omega arith))))
                   (cases-lt count room);
               rest = sym (prefixed-more o x (sum K (spanned old a) (spanned old b))) ∙ ap (λ r. prefixed o (consed x r)) (sym now-on) ∙ ap (prefixed o) (sym next ∙ now-left) ∙ inv .rest;
               spans = spans-on;

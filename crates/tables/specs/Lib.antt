@@ -1,1 +1,3 @@
 pub mod Merging
+pub mod Sheets
+pub mod Calls
