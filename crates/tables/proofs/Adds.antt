@@ -54,11 +54,13 @@ module _ {V : Type 0} (K : Kind V) (s : State V) (r p q : ℕ) (hr : r < 8) (hp 
     after = record { rows = mid; counts = s .counts; vars = s .vars }
 
     pub add-accepted : (n : ℕ) (end : State V) → Ok n ≡ counted merged → Filled merged (s .rows) (8 * c) c mid → end ≡ cleared K (room after) (stored K after r (worked after n)) n → (Ok tt ≡ answered (add-answer K s r p q)) × (end ≡ add-leaves K s r p q)
-    add-accepted n end e f h =
-        (answered-ok merged n e ∙ ap answered (same ∙ sym answers),
-          h ∙ finish-ok K s r hr merged c n mid is e (λ xs x. subst (λ m. length xs ≤ m) is (limited-few c _ xs x)) f ∙ ap (settled K s r) same ∙ sym leaves)
+    add-accepted n end e f h = (
+      answered-ok merged n e ∙ ap answered (same ∙ sym answers),
+      h ∙ finish-ok K s r hr merged c n mid is e (λ xs x. subst (λ m. length xs ≤ m) is (limited-few c _ xs x)) f ∙ ap (settled K s r) same ∙ sym leaves,
+    )
 
     pub add-refused : (x : Refusal) (end : List (Row V)) → Err x ≡ counted merged → Filled merged (s .rows) (8 * c) c mid → end ≡ put mid (8 * c) (replicate c (blank K)) → (Err x ≡ answered (add-answer K s r p q)) × (record { rows = end; counts = s .counts; vars = s .vars } ≡ add-leaves K s r p q)
-    add-refused x end e f h =
-        (answered-err merged x e ∙ ap answered (same ∙ sym answers),
-          finish-err K s r merged c x mid end is e f h ∙ ap (settled K s r) same ∙ sym leaves)
+    add-refused x end e f h = (
+      answered-err merged x e ∙ ap answered (same ∙ sym answers),
+      finish-err K s r merged c x mid end is e f h ∙ ap (settled K s r) same ∙ sym leaves,
+    )

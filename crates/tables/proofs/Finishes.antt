@@ -75,7 +75,7 @@ module _ {V : Type 0} (K : Kind V) (s : State V) where
         let swapped : put (put (s .rows) (8 * c) xs) (p * c) ys ≡ put (put (s .rows) (p * c) ys) (8 * c) xs = put-swap (s .rows) (8 * c) xs (omega arith) (p * c) ys (inr (omega arith)) (omega arith) in
         let gone : put (put (put (s .rows) (p * c) ys) (8 * c) xs) (8 * c) bs ≡ put (put (s .rows) (p * c) ys) (8 * c) bs = put-over (put (s .rows) (p * c) ys) (8 * c) xs (omega arith) bs (omega arith) (omega arith) in
         let plain : cleared K (room (with-rows mid)) (stored K (with-rows mid) p (worked (with-rows mid) n)) n .rows ≡ put (put mid (p * c) ys) (8 * c) bs =
-            λ i. put (put mid (p * same i) (moved i ++ replicate (min (getD (s .counts) p 0) (same i) - length (moved i)) (blank K))) (8 * same i) bs in
+        λ i. put (put mid (p * same i) (moved i ++ replicate (min (getD (s .counts) p 0) (same i) - length (moved i)) (blank K))) (8 * same i) bs in
         let all = plain ∙ ap (λ l. put (put l (p * c) ys) (8 * c) bs) e ∙ ap (λ l. put l (8 * c) bs) swapped ∙ gone in
         λ i. record { rows = all i; counts = set (s .counts) p (length (moved i)); vars = s .vars }
 
