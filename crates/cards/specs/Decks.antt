@@ -2,10 +2,10 @@
 --     commas ts           the texts ts, joined by commas
 --     figures K v         the figures of the coefficient v, joined by commas
 --     exponents es        the exponents es, joined by commas
+--     item i e            the exponent e, with the comma before it unless i is 0
 --     card K vs x         the card of the row x: figures, a blank, exponents, byte 10
 --     ending K            the card that ends a deck: the figures of zero
 --     deck K vs xs        the cards of the rows xs, and the one that ends them
---     written r           what writing answers that was to leave the deck r
 use mathlib.Core.Bool.{cond}
 use mathlib.Core.List.{List, [], _∷_, _++_, map}
 use Prim.Native.Nat.{ℕ}
@@ -27,6 +27,9 @@ figures K v = cond (eqb (K .count) 1) (signed (K .first v)) (signed (K .first v)
 
 abbrev pub exponents : List ℕ → List ℕ
 exponents es = commas (map decimal es)
+
+abbrev pub item : ℕ → ℕ → List ℕ
+item i e = cond (eqb i 0) (decimal e) (44 ∷ decimal e)
 
 abbrev pub card : {V : Type 0} → Kind V → List Variable → Row V → List ℕ
 card K vs x = figures K (x .coefficient) ++ (32 ∷ (exponents (unpack vs (x .key)) ++ 10 ∷ []))

@@ -1,2 +1,3 @@
 pub mod Decks
 pub mod Bytes
+pub mod Written
