@@ -1,2 +1,3 @@
+pub mod Canonical
 pub mod Sums
 pub mod Writing
