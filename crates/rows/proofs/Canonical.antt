@@ -106,8 +106,10 @@ module _ {V : Type 0} (K : Kind V) (ring : RingLaws (K .ops)) (laws : ValueLaws 
         where
           sums : K .meaning v ≡ plus a b
           sums = laws .means (plus a b) v f
+
           adds-at : (ws : List (Row V)) → Sum xs ys ws → (k : ℕ) → given (eqb (x .key) k) (K .meaning v) (coefficient K ws k) ≡ plus (coefficient K (x ∷ xs) k) (coefficient K (y ∷ ys) k)
           adds-at ws r k = (λ i. given (eqb (x .key) k) (sums i) (r .all .adds k i)) ∙ given-both (eqb (x .key) k) a b (coefficient K xs k) (coefficient K ys k) ∙ ap (λ m. plus (coefficient K (x ∷ xs) k) (given (eqb m k) b (coefficient K ys k))) h
+
           gone : K .ops .same (K .meaning v) (K .ops .zero) ≡ true → Sum (x ∷ xs) (y ∷ ys) zs
           gone t =
               let r = rest ys zs (cy .3) (sym (cond-true _ _ _ t) ∙ e) in
@@ -116,6 +118,7 @@ module _ {V : Type 0} (K : Kind V) (ring : RingLaws (K .ops)) (laws : ValueLaws 
                 all = record { canonical = r .all .canonical; adds = λ k. sym (given-zero (eqb (x .key) k) (K .meaning v) (coefficient K zs k) none) ∙ adds-at zs r k };
                 under = λ t u w. r .under t (u .1) (w .1);
               }
+
           stays : K .ops .same (K .meaning v) (K .ops .zero) ≡ false → Sum (x ∷ xs) (y ∷ ys) zs
           stays t =
               let p = consed-ok (row (x .key) v) (sum K xs ys) zs (sym (cond-false _ _ _ t) ∙ e) in
@@ -204,6 +207,7 @@ module _ {V : Type 0} (K : Kind V) (ring : RingLaws (K .ops)) (laws : ValueLaws 
           left g =
               let r = rest ys e (cy .3) g in
               carry xs ys (x ∷ xs) (y ∷ ys) e (x .key) r (none-under (x .key) xs (cx .2)) (none-under (x .key) ys (subst (λ m. Under m ys) (sym h) (cy .2))) (λ k n. (skip x xs k n, skip y ys k (λ q. n (q ∙ sym h))))
+
           by : (r : Result V Refusal) → K .value (plus (K .meaning (x .coefficient)) (K .meaning (y .coefficient))) ≡ r → both K (x .key) r (sum K xs ys) ≡ Err e → Refused (x ∷ xs) (y ∷ ys) e
           by (Ok v) g i = ⊎-elim (λ t. left (sym (cond-true _ _ _ t) ∙ i)) (λ t. left (consed-err (row (x .key) v) (sum K xs ys) e (sym (cond-false _ _ _ t) ∙ i))) (cases-bool (K .ops .same (K .meaning v) (K .ops .zero)))
           by (Err c) g i =

@@ -37,10 +37,10 @@ module _ {V : Type 0} (K : Kind V) (s : State V) (r p q : ℕ) (hr : r < 8) (hp 
   inside : placed₃ r p q ≡ true
   inside = and-from _ _ (lt-ltb r 8 hr) (and-from _ _ (lt-ltb p 8 hp) (lt-ltb q 8 hq))
 
-  answers : add-answer K s r p q ≡ added
+  pub answers : add-answer K s r p q ≡ added
   answers = ap (λ t. cond t added (Err Place)) inside
 
-  leaves : add-leaves K s r p q ≡ settled K s r added
+  pub leaves : add-leaves K s r p q ≡ settled K s r added
   leaves = ap (λ t. cond t (settled K s r (cond t added (Err Place))) s) inside
 
   module _ (c : ℕ) (a b : Span) (mid : List (Row V)) (is : c ≡ room s) (left : a ≡ spanning s p) (right : b ≡ spanning s q) where

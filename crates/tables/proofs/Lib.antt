@@ -5,3 +5,4 @@ pub mod Merges
 pub mod Results
 pub mod Finishes
 pub mod Adds
+pub mod Places

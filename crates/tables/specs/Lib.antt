@@ -1,3 +1,4 @@
 pub mod Merging
 pub mod Sheets
 pub mod Calls
+pub mod Promises
