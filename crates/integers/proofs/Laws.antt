@@ -21,7 +21,7 @@ use Rattle.refusals.specs.declared.Refusal.the-variants.{Unfit, ZeroDivisor, No
 use Rattle.rings.specs.Kinds.{IsValue, ValueLaws, FigureLaws, Division}
 use Rattle.rings.specs.Kinds.Division.{by-zero, exact, none}
 use Rattle.rings.specs.Whole.{sameℤ}
-use Rattle.rings.proofs.Whole.{same-decides, natAbs-times, remainder-of-product, quotient-exact, natAbs-quotient}
+use Rattle.rings.proofs.Whole.{same-decides, natAbs-negative, natAbs-times, remainder-of-product, quotient-exact, natAbs-quotient}
 use Rattle.integers.specs.Integers.{fits, held, valued, integers, divided}
 use Rattle.integers.specs.declared.Integer.{Integer}
 
@@ -49,11 +49,6 @@ valued-err z c e =
   where
     unfit : _≡_ {A = Result Integer Refusal} (Err Unfit) (Err c) → c ≡ Unfit
     unfit h = cc
-
-natAbs-negative : (z : ℤ) → natAbs (negℤ z) ≡ natAbs z
-natAbs-negative (pos zero) = refl
-natAbs-negative (pos (suc n)) = refl
-natAbs-negative (negsuc n) = refl
 
 pub value-laws : ValueLaws integers
 value-laws = record {

@@ -76,14 +76,15 @@ whole-ring = record {
   decides = same-decides;
 }
 
-natAbs-negative : (n : ℕ) → natAbs (negℤ (pos n)) ≡ n
-natAbs-negative zero = refl
-natAbs-negative (suc n) = refl
+pub natAbs-negative : (z : ℤ) → natAbs (negℤ z) ≡ natAbs z
+natAbs-negative (pos zero) = refl
+natAbs-negative (pos (suc n)) = refl
+natAbs-negative (negsuc n) = refl
 
 pub natAbs-times : (a b : ℤ) → natAbs (a *ℤ b) ≡ natAbs a * natAbs b
 natAbs-times (pos a) (pos b) = refl
-natAbs-times (pos a) (negsuc b) = natAbs-negative (a * suc b)
-natAbs-times (negsuc a) (pos b) = natAbs-negative (suc a * b)
+natAbs-times (pos a) (negsuc b) = natAbs-negative (pos (a * suc b))
+natAbs-times (negsuc a) (pos b) = natAbs-negative (pos (suc a * b))
 natAbs-times (negsuc a) (negsuc b) = refl
 
 pub zero-or-positive : (z : ℤ) → (z ≡ pos 0) ⊎ (0 < natAbs z)
@@ -99,7 +100,7 @@ whole-no-zero-divisors a b e =
 
 natAbs-remainder : (a b : ℤ) → natAbs (remZ a b) ≡ natAbs a % natAbs b
 natAbs-remainder (pos a) b = refl
-natAbs-remainder (negsuc a) b = natAbs-negative (suc a % natAbs b)
+natAbs-remainder (negsuc a) b = natAbs-negative (pos (suc a % natAbs b))
 
 pub zero-from-natAbs : (z : ℤ) → natAbs z ≡ 0 → z ≡ pos 0
 zero-from-natAbs z e = ⊎-elim (λ h. h) (λ h. absurd (omega arith)) (zero-or-positive z)

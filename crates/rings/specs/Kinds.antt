@@ -11,6 +11,7 @@
 --     IsValue K v     the content v is a value
 --     Within r a b    the figures a and b lie in the ranges r, as a test
 --     Short k r       no figure in the ranges r has more than k decimal digits
+--     Counted n r     n figures are one or two, and the ranges r are short enough for so many
 --     ValueLaws K     each value means one member that fits, and each member that fits has one value
 --     FigureLaws K    figures in range make a value, a value's figures make it again, and only zeros make zero
 --     Division K a b r    r answers a divided by b: refused by zero, exact, without a quotient, or with one that does not fit
