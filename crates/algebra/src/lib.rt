@@ -1,5 +1,7 @@
 // Polynomials as mathematics. The definitions are in specs/, the proofs in proofs/; nothing here runs.
 // Each theorem is the contract of a function that does nothing, for every kind that keeps the laws.
+#![tactic(auto)]
+
 ghost use Rattle.std.specs.Prelude.{◌≡◌, ℕ, ◌<◌, true, List};
 ghost use Rattle.formats.specs.declared.variable.Variable.{Variable as VariableOf};
 ghost use Rattle.algebra.specs.Polynomials.{Poly};

@@ -1,4 +1,6 @@
 // Twelve tables in rows that the caller lends, and the passes over them: sums, and sums with a multiple of a table.
+#![tactic(auto)]
+
 mod add;
 mod asking;
 mod blank;

@@ -1,4 +1,6 @@
 // The arithmetic of tables as definitions on lists of rows, and what it means. The definitions are in specs/; nothing here runs.
+#![tactic(auto)]
+
 ghost use Rattle.std.specs.Prelude.{◌≡◌, ℕ, true, List};
 ghost use Rattle.formats.specs.Drafts.{Sound};
 ghost use Rattle.formats.specs.declared.variable.Variable.{Variable as VariableOf};

@@ -1,6 +1,8 @@
 // How fast the arithmetic of a sheet is. Without an argument the program prints how many rows each result has and a
 // checksum of them; with the argument `time`, the nanoseconds that the operation takes. tools/compare sets them
 // beside the same work in C and with FLINT.
+#![tactic(auto)]
+
 mod fill;
 mod report;
 

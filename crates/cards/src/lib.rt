@@ -1,4 +1,6 @@
 // Decks of cards: a place's polynomial as text, a card for each row.
+#![tactic(auto)]
+
 mod card;
 mod deck;
 mod exponents;

@@ -1,4 +1,6 @@
 // Decks of cards, worked byte by byte into numbers, and number by number into terms.
+#![tactic(auto)]
+
 mod begun;
 mod beyond;
 mod blank;

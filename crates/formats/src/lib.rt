@@ -1,4 +1,6 @@
 // Formats: which variables a polynomial has, how wide their exponents are, and how exponents are packed into a key.
+#![tactic(auto)]
+
 mod asking;
 mod bounds;
 mod degrees;

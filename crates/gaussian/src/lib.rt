@@ -1,4 +1,6 @@
 // The Gaussian integers with parts of magnitude up to 1,073,741,823, as a coefficient kind of two figures. A domain.
+#![tactic(auto)]
+
 mod domain;
 mod product;
 mod quotient;

@@ -1,4 +1,6 @@
 // The whole numbers of magnitude up to 134,217,727, as a coefficient kind of one figure. A domain.
+#![tactic(auto)]
+
 ghost use Rattle.std.specs.Prelude.{◌≡◌, ◌≤◌, true, unsigned_abs};
 ghost use Rattle.integers.specs.Integers.{fits, held, valued, integers, divided};
 ghost use Rattle.rings.proofs.Whole.{whole_ring, whole_no_zero_divisors};

@@ -1,4 +1,6 @@
 // The command: a script in, an answer for each of its commands out.
+#![tactic(auto)]
+
 mod answers;
 mod command;
 mod fault;

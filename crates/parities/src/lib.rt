@@ -1,4 +1,6 @@
 // The whole numbers modulo 2: the smallest kind that keeps the laws, as an instance for makers who bring their own.
+#![tactic(auto)]
+
 ghost use Rattle.std.specs.Prelude.{false, refl};
 ghost use Rattle.parities.specs.Parities.{parities};
 ghost use Rattle.std.proofs.Common.{lit<, lit≤};

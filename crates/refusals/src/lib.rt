@@ -1,4 +1,6 @@
 // Why a call was refused. Every refusal of the kernel has one of these causes, and each cause has its number.
+#![tactic(auto)]
+
 ghost use Rattle.std.specs.Prelude.{◌≡◌};
 ghost use Rattle.refusals.specs.Numbers.{number};
 

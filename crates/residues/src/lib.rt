@@ -1,4 +1,6 @@
 // The whole numbers modulo 257, as a coefficient kind of one figure. A domain.
+#![tactic(auto)]
+
 ghost use Rattle.std.specs.Prelude.{◌≡◌, ◌*◌, ◌%◌, ◌<◌, true};
 ghost use Rattle.residues.specs.Residues.{of, residues, reciprocal, divided};
 ghost use Rattle.residues.specs.Laws.{residue_ring, value_laws, figure_laws, no_zero_divisors};

@@ -1,4 +1,6 @@
 // What a coefficient kind is: the ring that it stands for, which members fit, and how a value is held and written.
+#![tactic(auto)]
+
 mod domain;
 mod ring;
 mod values;

@@ -1,4 +1,6 @@
 // The sheet: eight places for polynomials and four areas for working, in rows that the caller lends.
+#![tactic(auto)]
+
 mod add;
 mod asking;
 mod change;

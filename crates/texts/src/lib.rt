@@ -1,4 +1,6 @@
 // Decks as texts: how one is written, and what is read from one. The definitions are in specs/; nothing here runs.
+#![tactic(auto)]
+
 ghost use Rattle.std.specs.Prelude.{List};
 ghost use Rattle.formats.specs.Drafts.{Sound};
 ghost use Rattle.formats.specs.declared.variable.Variable.{Variable as VariableOf};

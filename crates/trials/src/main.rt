@@ -1,5 +1,7 @@
 // Every method of every coefficient kind at the limits of its figures, one line each; the gate compares what is written
 // with `stdout`, which `tools/expected-trials` works out independently.
+#![tactic(auto)]
+
 mod kinds;
 
 use gaussian::Gaussian;

@@ -1,4 +1,6 @@
 // Calls on a sheet as values, and what lists of them do.
+#![tactic(auto)]
+
 mod call;
 mod domain;
 mod returned;

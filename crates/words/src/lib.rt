@@ -1,4 +1,6 @@
 // The whole numbers modulo 4,294,967,296, as a coefficient kind of one figure. No domain.
+#![tactic(auto)]
+
 ghost use Rattle.std.specs.Prelude.{false};
 ghost use Rattle.words.specs.Words.{words};
 ghost use Rattle.words.specs.Laws.{word_ring, value_laws, figure_laws};
