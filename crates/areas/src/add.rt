@@ -10,9 +10,9 @@ use rows::Row;
 impl<K: Ring> Areas<'_, K> {
     // Leaves the sum of the tables in two areas in a third. Refused, that area is empty.
     pub fn add(&mut self, to: usize, left: usize, right: usize) -> Result<(), Refusal>
-        ensures answer { result ≡ answered (added kind (contents self.old) to left right) }
-        ensures leaves { contents self.new ≡ storing (contents self.old) to (rows_of (added kind (contents self.old) to left right)) }
-        ensures tidy { Tidy kind self.old → Tidy kind self.new }
+        ensures answer { result ≡ answered (added K.kind (contents self.old) to left right) }
+        ensures leaves { contents self.new ≡ storing (contents self.old) to (rows_of (added K.kind (contents self.old) to left right)) }
+        ensures tidy { Tidy K.kind self.old → Tidy K.kind self.new }
     {
         self.combine(to, left, right, None)
     }
@@ -25,9 +25,9 @@ impl<K: Ring> Areas<'_, K> {
         right: usize,
         row: Row<K>,
     ) -> Result<(), Refusal>
-        ensures answer { result ≡ answered (scaling kind (contents self.old) to left right row) }
-        ensures leaves { contents self.new ≡ storing (contents self.old) to (rows_of (scaling kind (contents self.old) to left right row)) }
-        ensures tidy { Tidy kind self.old → Tidy kind self.new }
+        ensures answer { result ≡ answered (scaling K.kind (contents self.old) to left right row) }
+        ensures leaves { contents self.new ≡ storing (contents self.old) to (rows_of (scaling K.kind (contents self.old) to left right row)) }
+        ensures tidy { Tidy K.kind self.old → Tidy K.kind self.new }
     {
         self.combine(to, left, right, Some(row))
     }

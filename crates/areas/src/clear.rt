@@ -9,7 +9,7 @@ impl<K: Ring> Areas<'_, K> {
     // Makes the table in an area empty, if there is such an area.
     pub fn clear(&mut self, area: usize)
         ensures leaves { contents self.new ≡ storing (contents self.old) area [] }
-        ensures tidy { Tidy kind self.old → Tidy kind self.new }
+        ensures tidy { Tidy K.kind self.old → Tidy K.kind self.new }
     {
         if area < 12 {
             self.settle(area, 0);

@@ -26,9 +26,9 @@ impl<K: Ring> Areas<'_, K> {
         right: usize,
         factor: Option<Row<K>>,
     ) -> Result<(), Refusal>
-        ensures answer { result ≡ answered (combined kind (contents self.old) to left right factor) }
-        ensures leaves { contents self.new ≡ storing (contents self.old) to (rows_of (combined kind (contents self.old) to left right factor)) }
-        ensures tidy { Tidy kind self.old → Tidy kind self.new }
+        ensures answer { result ≡ answered (combined K.kind (contents self.old) to left right factor) }
+        ensures leaves { contents self.new ≡ storing (contents self.old) to (rows_of (combined K.kind (contents self.old) to left right factor)) }
+        ensures tidy { Tidy K.kind self.old → Tidy K.kind self.new }
     {
         if !apart(to, left, right) {
             self.clear(to);

@@ -21,7 +21,7 @@ impl<K: Ring> Areas<'_, K> {
     // Makes the table in one area that of another too.
     pub fn copy(&mut self, to: usize, from: usize)
         ensures leaves { contents self.new ≡ storing (contents self.old) to ((contents self.old).tables from) }
-        ensures tidy { Tidy kind self.old → Tidy kind self.new }
+        ensures tidy { Tidy K.kind self.old → Tidy K.kind self.new }
     {
         if from > 11 {
             self.clear(to);

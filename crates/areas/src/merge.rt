@@ -36,8 +36,8 @@ pub(crate) fn merge_rows<K: Ring>(
     room: usize,
 ) -> Result<usize, Refusal>
     requires { Mergeable rows.old left right at room }
-    ensures answer { result ≡ counted (limited room (giving kind factor Nothing (spanned rows.old left) (spanned rows.old right))) }
-    ensures filled { Filled (limited room (giving kind factor Nothing (spanned rows.old left) (spanned rows.old right))) rows.old at room rows.new }
+    ensures answer { result ≡ counted (limited room (giving K.kind factor Nothing (spanned rows.old left) (spanned rows.old right))) }
+    ensures filled { Filled (limited room (giving K.kind factor Nothing (spanned rows.old left) (spanned rows.old right))) rows.old at room rows.new }
 {
     let mut merge = Merge {
         left,

@@ -19,7 +19,7 @@ impl<'a, K: Ring> Areas<'a, K> {
     // Areas on the rows, each with an empty table. What the rows held is gone.
     pub fn open(rows: &'a mut [Row<K>]) -> Areas<'a, K>
         ensures holds { contents result ≡ fresh (length rows.old) }
-        ensures tidy { Tidy kind result }
+        ensures tidy { Tidy K.kind result }
     {
         let len = rows.len();
         blank_rows(rows, 0, len);

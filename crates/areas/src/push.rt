@@ -12,7 +12,7 @@ impl<K: Ring> Areas<'_, K> {
     pub fn push(&mut self, area: usize, row: Row<K>) -> Result<(), Refusal>
         ensures answer { result ≡ answered (pushed (contents self.old) area row) }
         ensures leaves { contents self.new ≡ kept (contents self.old) area (pushed (contents self.old) area row) }
-        ensures tidy { Tidy kind self.old → Tidy kind self.new }
+        ensures tidy { Tidy K.kind self.old → Tidy K.kind self.new }
     {
         if area > 11 {
             return Err(Refusal::Place);

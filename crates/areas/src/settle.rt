@@ -13,7 +13,7 @@ impl<K: Ring> Areas<'_, K> {
     pub(crate) fn settle(&mut self, area: usize, count: usize)
         requires area { area < 12 }
         requires fits { count ≤ lent_room self.old }
-        ensures rows { self.new.rows.now ≡ put self.old.rows.now (area * lent_room self.old + count) (replicate (rows_in self.old area - count) (blank kind)) }
+        ensures rows { self.new.rows.now ≡ put self.old.rows.now (area * lent_room self.old + count) (replicate (rows_in self.old area - count) (blank K.kind)) }
         ensures counts { self.new.counts ≡ slice_set self.old.counts area count }
     {
         let at = area * self.room();

@@ -41,7 +41,7 @@ fn find_head<K: Ring>(
     requires within { Spans rows.now merge }
     requires none { merge.head ≡ Nothing }
     requires some { 0 < unread merge }
-    ensures next { MatchResult result (λ s. remaining kind factor rows.now merge ≡ prepended s.row (remaining kind factor rows.now s.rest)) (λ e. remaining kind factor rows.now merge ≡ Err e) }
+    ensures next { MatchResult result (λ s. remaining K.kind factor rows.now merge ≡ prepended s.row (remaining K.kind factor rows.now s.rest)) (λ e. remaining K.kind factor rows.now merge ≡ Err e) }
     ensures goes { IfOk result (λ s. Goes merge s.row s.rest) }
 {
     let left = merge.left;
@@ -61,7 +61,7 @@ pub(crate) fn next_step<K: Ring>(
 ) -> Result<Step<K>, Refusal>
     requires within { Spans rows.now merge }
     requires some { 0 < unread merge }
-    ensures next { MatchResult result (λ s. remaining kind factor rows.now merge ≡ prepended s.row (remaining kind factor rows.now s.rest)) (λ e. remaining kind factor rows.now merge ≡ Err e) }
+    ensures next { MatchResult result (λ s. remaining K.kind factor rows.now merge ≡ prepended s.row (remaining K.kind factor rows.now s.rest)) (λ e. remaining K.kind factor rows.now merge ≡ Err e) }
     ensures goes { IfOk result (λ s. Goes merge s.row s.rest) }
 {
     let left = merge.left;

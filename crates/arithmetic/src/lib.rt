@@ -11,7 +11,7 @@ use rings::{Domain, Ring};
 
 // On canonical rows, the arithmetic of tables is that of polynomials, or is refused with its cause.
 pub fn table_arithmetic<K: Ring>()
-    ensures { (vs : List VariableOf) (c : ℕ) → Sound vs → TableArithmetic kind vs c }
+    ensures { (vs : List VariableOf) (c : ℕ) → Sound vs → TableArithmetic K.kind vs c }
 {}
 
 // Exact division of canonical rows finds the quotient of polynomials exactly if there is one, unless a limit stops it.

@@ -14,7 +14,7 @@ use rows::Row;
 // How many bytes it has, for at most 4096 rows.
 pub(crate) fn deck_len<K: Ring>(format: &Format, rows: &[Row<K>]) -> usize
     requires { length rows.now ≤ 4096 }
-    ensures { result ≡ length (deck kind (variables format.now) rows.now) }
+    ensures { result ≡ length (deck K.kind (variables format.now) rows.now) }
 {
     let mut len = figures_len(K::zero()) + 1;
     for row in rows {
@@ -25,8 +25,8 @@ pub(crate) fn deck_len<K: Ring>(format: &Format, rows: &[Row<K>]) -> usize
 
 // Writes it, and answers where it ends.
 pub(crate) fn put_deck<K: Ring>(output: &mut [u8], format: &Format, rows: &[Row<K>]) -> usize
-    requires { Fits output.old 0 (deck kind (variables format.now) rows.now) }
-    ensures { Wrote output.old 0 (deck kind (variables format.now) rows.now) output.new result }
+    requires { Fits output.old 0 (deck K.kind (variables format.now) rows.now) }
+    ensures { Wrote output.old 0 (deck K.kind (variables format.now) rows.now) output.new result }
 {
     let mut at = 0;
     for row in rows {

@@ -8,7 +8,7 @@ use rings::Ring;
 
 // How many bytes they have.
 pub(crate) fn figures_len<K: Ring>(value: K) -> usize
-    ensures len { result ≡ length (figures kind value) }
+    ensures len { result ≡ length (figures K.kind value) }
     ensures few { result ≤ 43 }
 {
     let (first, second) = value.figures();
@@ -21,8 +21,8 @@ pub(crate) fn figures_len<K: Ring>(value: K) -> usize
 
 // Writes them, and answers where the next byte goes.
 pub(crate) fn put_figures<K: Ring>(output: &mut [u8], at: usize, value: K) -> usize
-    requires { Fits output.old at (figures kind value) }
-    ensures { Wrote output.old at (figures kind value) output.new result }
+    requires { Fits output.old at (figures K.kind value) }
+    ensures { Wrote output.old at (figures K.kind value) output.new result }
 {
     let (first, second) = value.figures();
     if K::figure_count() == 1 {

@@ -16,5 +16,5 @@ pub fn uses_over_domains<K: Domain>()
 
 // Over every kind, for uses without a division.
 pub fn uses_over_rings<K: Ring>()
-    ensures { (over : Over K) (vs : List VariableOf) → Sound vs → Promise kind over vs false }
+    ensures { (over : Over K) (vs : List VariableOf) → Sound vs → Promise K.kind over vs false }
 {}

@@ -11,7 +11,7 @@ use rings::Ring;
 
 // The coefficient that figures make. Zero ends the deck.
 pub(crate) fn coefficient<K: Ring>(byte: usize, first: i64, second: i64) -> Result<Got<K>, Fault>
-    ensures { (vs : List VariableOf) → got_shown vs result ≡ coefficient kind byte (kind.make first second) }
+    ensures { (vs : List VariableOf) → got_shown vs result ≡ coefficient K.kind byte (K.kind.make first second) }
 {
     let value: K = at_byte(K::from_figures(first, second), byte)?;
     if value.is_zero() {

@@ -14,7 +14,7 @@ use rings::Ring;
 
 // The term after a number: a figure of its coefficient, or its next exponent.
 pub fn take<K: Ring>(format: &Format, partial: Partial<K>, number: Number) -> Result<Got<K>, Fault>
-    ensures { got_shown (variables format.now) result ≡ taken kind (variables format.now) (partial_of (variables format.now) partial) (number_of number) }
+    ensures { got_shown (variables format.now) result ≡ taken K.kind (variables format.now) (partial_of (variables format.now) partial) (number_of number) }
 {
     match partial {
         Partial::None => {

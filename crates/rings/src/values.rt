@@ -6,5 +6,5 @@ use crate::ring::Ring;
 
 // A kind that keeps the laws has two values at least, and does not refuse every sum. Nothing runs here: the theorem is the contract.
 pub fn tells_apart<K: Ring>()
-    ensures { Telling kind }
+    ensures { Telling K.kind }
 {}

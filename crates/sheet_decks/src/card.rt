@@ -13,7 +13,7 @@ use rows::Row;
 
 // How many bytes it has.
 pub(crate) fn card_len<K: Ring>(format: &Format, row: Row<K>) -> usize
-    ensures len { result ≡ length (card kind (variables format.now) row) }
+    ensures len { result ≡ length (card K.kind (variables format.now) row) }
     ensures few { result ≤ 213 }
 {
     let exponents = format.unpack(row.key);
@@ -23,8 +23,8 @@ pub(crate) fn card_len<K: Ring>(format: &Format, row: Row<K>) -> usize
 
 // Writes it, and answers where the next byte goes.
 pub(crate) fn put_card<K: Ring>(output: &mut [u8], at: usize, format: &Format, row: Row<K>) -> usize
-    requires { Fits output.old at (card kind (variables format.now) row) }
-    ensures { Wrote output.old at (card kind (variables format.now) row) output.new result }
+    requires { Fits output.old at (card K.kind (variables format.now) row) }
+    ensures { Wrote output.old at (card K.kind (variables format.now) row) output.new result }
 {
     let exponents = format.unpack(row.key);
     let count = format.count();

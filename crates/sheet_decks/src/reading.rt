@@ -20,9 +20,9 @@ pub struct ReadFault {
 // Reads a deck into the running table, and answers how many bytes it has.
 fn read_deck<K: Ring>(sheet: &mut Sheet<'_, K>, text: &[u8]) -> Result<usize, Fault>
     requires { running sheet.old ≡ [] }
-    ensures answer { deck_shown result (running sheet.new) ≡ read_of kind (state sheet.old) text.now }
+    ensures answer { deck_shown result (running sheet.new) ≡ read_of K.kind (state sheet.old) text.now }
     ensures leaves { state sheet.new ≡ state sheet.old }
-    ensures neat { Neat kind sheet.old → Neat kind sheet.new }
+    ensures neat { Neat K.kind sheet.old → Neat K.kind sheet.new }
 {
     let mut card = Card::new();
     let mut partial = Partial::None;
@@ -48,7 +48,7 @@ fn read_deck<K: Ring>(sheet: &mut Sheet<'_, K>, text: &[u8]) -> Result<usize, Fa
 fn give_up<K: Ring>(sheet: &mut Sheet<'_, K>, fault: Fault) -> ReadFault
     ensures answer { result ≡ record { refusal = fault.refusal; byte = Some fault.byte } }
     ensures leaves { state sheet.new ≡ state sheet.old }
-    ensures blank { Neat kind sheet.old → Blank kind sheet.new }
+    ensures blank { Neat K.kind sheet.old → Blank K.kind sheet.new }
 {
     sheet.abandon();
     ReadFault {
@@ -63,10 +63,10 @@ pub fn read<K: Ring>(
     place: usize,
     text: &[u8],
 ) -> Result<usize, ReadFault>
-    ensures answer { result ≡ read_answer kind (state sheet.old) place text.now }
-    ensures leaves { state sheet.new ≡ read_leaves kind (state sheet.old) place text.now }
-    ensures blank { Blank kind sheet.old → Blank kind sheet.new }
-    ensures algebra { Reads kind (state sheet.old) (state sheet.new) place text.now result }
+    ensures answer { result ≡ read_answer K.kind (state sheet.old) place text.now }
+    ensures leaves { state sheet.new ≡ read_leaves K.kind (state sheet.old) place text.now }
+    ensures blank { Blank K.kind sheet.old → Blank K.kind sheet.new }
+    ensures algebra { Reads K.kind (state sheet.old) (state sheet.new) place text.now result }
 {
     if place > 7 {
         return Err(ReadFault {

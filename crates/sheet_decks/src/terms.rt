@@ -17,10 +17,10 @@ pub(crate) fn term<K: Ring>(
     number: Option<Number>,
 ) -> Result<Option<Partial<K>>, Fault>
     requires { Falling (running sheet.old) }
-    ensures answer { (end : ℕ) (go : Going (Table K) K) → goes_on (state sheet.old).vars result (running sheet.new) end go ≡ numbered kind (state sheet.old) (running sheet.old) partial number end go }
+    ensures answer { (end : ℕ) (go : Going (Table K) K) → goes_on (state sheet.old).vars result (running sheet.new) end go ≡ numbered K.kind (state sheet.old) (running sheet.old) partial number end go }
     ensures falling { Falling (running sheet.new) }
     ensures leaves { state sheet.new ≡ state sheet.old }
-    ensures neat { Neat kind sheet.old → Neat kind sheet.new }
+    ensures neat { Neat K.kind sheet.old → Neat K.kind sheet.new }
 {
     let Some(number) = number else {
         return Ok(Some(partial));

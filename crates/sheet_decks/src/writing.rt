@@ -14,8 +14,8 @@ pub fn write<K: Ring>(
     place: usize,
     output: &mut [u8],
 ) -> Result<usize, Refusal>
-    ensures answer { result ≡ write_answer kind (state sheet.now) place (length output.old) }
-    ensures leaves { output.new ≡ write_leaves kind (state sheet.now) place output.old }
+    ensures answer { result ≡ write_answer K.kind (state sheet.now) place (length output.old) }
+    ensures leaves { output.new ≡ write_leaves K.kind (state sheet.now) place output.old }
 {
     let rows = sheet.rows(place)?;
     let format = sheet.format();

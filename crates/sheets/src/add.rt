@@ -13,10 +13,10 @@ use rings::Ring;
 impl<K: Ring> Sheet<'_, K> {
     // Makes the sum of two places the rows of a place.
     pub fn add(&mut self, res: usize, left: usize, right: usize) -> Result<(), Refusal>
-        ensures answer { result ≡ answered (added kind (state self.old) res left right) }
-        ensures leaves { state self.new ≡ kept (state self.old) res (added kind (state self.old) res left right) }
-        ensures blank { Blank kind self.old → Blank kind self.new }
-        ensures algebra { Adding kind (state self.old) (state self.new) result res left right }
+        ensures answer { result ≡ answered (added K.kind (state self.old) res left right) }
+        ensures leaves { state self.new ≡ kept (state self.old) res (added K.kind (state self.old) res left right) }
+        ensures blank { Blank K.kind self.old → Blank K.kind self.new }
+        ensures algebra { Adding K.kind (state self.old) (state self.new) result res left right }
     {
         if res > 7 || left > 7 || right > 7 {
             return Err(Refusal::Place);

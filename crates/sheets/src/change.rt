@@ -35,7 +35,7 @@ fn derived_row<K: Ring>(
     row: Row<K>,
     variable: usize,
 ) -> Result<Option<Row<K>>, Refusal>
-    ensures { result ≡ row_derived kind (variables format.now) variable row }
+    ensures { result ≡ row_derived K.kind (variables format.now) variable row }
 {
     let exponent = format.exponent(row.key, variable);
     if exponent == 0 {
@@ -55,7 +55,7 @@ fn changed_row<K: Ring>(
     row: Row<K>,
     change: Change,
 ) -> Result<Option<Row<K>>, Refusal>
-    ensures { result ≡ changed_row kind (variables format.now) change row }
+    ensures { result ≡ changed_row K.kind (variables format.now) change row }
 {
     match change {
         Change::Truncate { count, most } => Ok(low_row(format, row, count, most)),
@@ -67,7 +67,7 @@ impl<K: Ring> Sheet<'_, K> {
     // Makes what the change makes of the rows of a place, in a working area.
     pub(crate) fn change_rows(&mut self, place: usize, change: Change) -> Result<usize, Refusal>
         requires { place < 8 }
-        ensures { Making kind 8 self.old self.new (changed kind (state self.old).vars change ((state self.old).places place)) result }
+        ensures { Making K.kind 8 self.old self.new (changed K.kind (state self.old).vars change ((state self.old).places place)) result }
     {
         self.areas.clear(8);
         let count = self.areas.table(place).len();

@@ -13,10 +13,10 @@ use rows::Row;
 impl<K: Ring> Sheet<'_, K> {
     // Makes the constant that two figures write the rows of a place.
     pub fn constant(&mut self, res: usize, first: i64, second: i64) -> Result<(), Refusal>
-        ensures answer { result ≡ answered (constant kind (state self.old) res first second) }
-        ensures leaves { state self.new ≡ kept (state self.old) res (constant kind (state self.old) res first second) }
-        ensures blank { Blank kind self.old → Blank kind self.new }
-        ensures algebra { Constant kind (state self.old) (state self.new) result res first second }
+        ensures answer { result ≡ answered (constant K.kind (state self.old) res first second) }
+        ensures leaves { state self.new ≡ kept (state self.old) res (constant K.kind (state self.old) res first second) }
+        ensures blank { Blank K.kind self.old → Blank K.kind self.new }
+        ensures algebra { Constant K.kind (state self.old) (state self.new) result res first second }
     {
         if res > 7 {
             return Err(Refusal::Place);

@@ -14,8 +14,8 @@ impl<K: Ring> Sheet<'_, K> {
     pub fn copy(&mut self, res: usize, place: usize) -> Result<(), Refusal>
         ensures answer { result ≡ answered (copied (state self.old) res place) }
         ensures leaves { state self.new ≡ kept (state self.old) res (copied (state self.old) res place) }
-        ensures blank { Blank kind self.old → Blank kind self.new }
-        ensures algebra { Copying kind (state self.old) (state self.new) result res place }
+        ensures blank { Blank K.kind self.old → Blank K.kind self.new }
+        ensures algebra { Copying K.kind (state self.old) (state self.new) result res place }
     {
         if res > 7 || place > 7 {
             return Err(Refusal::Place);

@@ -18,10 +18,10 @@ impl<K: Ring> Sheet<'_, K> {
         place: usize,
         variable: usize,
     ) -> Result<(), Refusal>
-        ensures answer { result ≡ answered (differentiated kind (state self.old) res place variable) }
-        ensures leaves { state self.new ≡ kept (state self.old) res (differentiated kind (state self.old) res place variable) }
-        ensures blank { Blank kind self.old → Blank kind self.new }
-        ensures algebra { Differentiating kind (state self.old) (state self.new) result res place variable }
+        ensures answer { result ≡ answered (differentiated K.kind (state self.old) res place variable) }
+        ensures leaves { state self.new ≡ kept (state self.old) res (differentiated K.kind (state self.old) res place variable) }
+        ensures blank { Blank K.kind self.old → Blank K.kind self.new }
+        ensures algebra { Differentiating K.kind (state self.old) (state self.new) result res place variable }
     {
         if res > 7 || place > 7 {
             return Err(Refusal::Place);

@@ -30,7 +30,7 @@ fn quotient_row<K: Domain>(format: &Format, row: Row<K>, by: Row<K>) -> Result<R
 
 // The row with the negative of its coefficient.
 fn opposite<K: Ring>(row: Row<K>) -> Row<K>
-    ensures { result ≡ opposed kind row }
+    ensures { result ≡ opposed K.kind row }
 {
     Row {
         key: row.key,

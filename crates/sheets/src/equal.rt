@@ -11,7 +11,7 @@ use rows::Row;
 
 // Whether two tables have the same rows.
 fn same_rows<K: Ring>(left: &[Row<K>], right: &[Row<K>]) -> bool
-    ensures { result ≡ same_rows kind left.now right.now }
+    ensures { result ≡ same_rows K.kind left.now right.now }
 {
     if left.len() != right.len() {
         return false;
@@ -29,8 +29,8 @@ fn same_rows<K: Ring>(left: &[Row<K>], right: &[Row<K>]) -> bool
 impl<K: Ring> Sheet<'_, K> {
     // Whether two places have the same rows.
     pub fn equal(&self, left: usize, right: usize) -> Result<bool, Refusal>
-        ensures answer { result ≡ equal_answer kind (state self.now) left right }
-        ensures algebra { Comparing kind (state self.now) left right result }
+        ensures answer { result ≡ equal_answer K.kind (state self.now) left right }
+        ensures algebra { Comparing K.kind (state self.now) left right result }
     {
         if left > 7 || right > 7 {
             return Err(Refusal::Place);

@@ -22,7 +22,7 @@ impl<K: Ring> Sheet<'_, K> {
     // Empties the working areas.
     pub(crate) fn sweep(&mut self)
         ensures leaves { state self.new ≡ state self.old }
-        ensures blank { Tidy kind self.old.areas → Blank kind self.new }
+        ensures blank { Tidy K.kind self.old.areas → Blank K.kind self.new }
     {
         self.areas.clear(8);
         self.areas.clear(9);
@@ -35,7 +35,7 @@ impl<K: Ring> Sheet<'_, K> {
         requires { res < 8 }
         ensures answer { result ≡ ended made }
         ensures leaves { state self.new ≡ finished (state self.old) (contents self.old.areas) res made }
-        ensures blank { Tidy kind self.old.areas → Blank kind self.new }
+        ensures blank { Tidy K.kind self.old.areas → Blank K.kind self.new }
     {
         let answer = match made {
             Ok(area) => {

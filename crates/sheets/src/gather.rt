@@ -23,7 +23,7 @@ impl<K: Ring> Sheet<'_, K> {
     // Makes the rows of a table that make products of degree at most `most` with a row, in the first `count` variables, the table of the area 9.
     pub(crate) fn gather(&mut self, left: usize, row: Row<K>, count: usize, most: u32)
         requires { left < 9 }
-        ensures kept { Kept kind (but 9) self.old self.new }
+        ensures kept { Kept K.kind (but 9) self.old self.new }
         ensures rows { table self.new 9 ≡ near (state self.old).vars count most (table self.old left) row }
     {
         let degree = self.format.degree(row.key, count);

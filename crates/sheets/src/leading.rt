@@ -23,7 +23,7 @@ impl<K: Ring> Sheet<'_, K> {
     // The first row of a place; none if the place is empty.
     pub fn leading(&self, place: usize) -> Result<Option<Row<K>>, Refusal>
         ensures answer { result ≡ leading_answer (state self.now) place }
-        ensures algebra { LeadingRow kind (state self.now) place result }
+        ensures algebra { LeadingRow K.kind (state self.now) place result }
     {
         if place > 7 {
             return Err(Refusal::Place);

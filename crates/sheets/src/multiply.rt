@@ -12,10 +12,10 @@ use rings::Ring;
 impl<K: Ring> Sheet<'_, K> {
     // Makes the product of two places the rows of a place.
     pub fn multiply(&mut self, res: usize, left: usize, right: usize) -> Result<(), Refusal>
-        ensures answer { result ≡ answered (multiplied kind (state self.old) res left right) }
-        ensures leaves { state self.new ≡ kept (state self.old) res (multiplied kind (state self.old) res left right) }
-        ensures blank { Blank kind self.old → Blank kind self.new }
-        ensures algebra { Multiplying kind (state self.old) (state self.new) result res left right }
+        ensures answer { result ≡ answered (multiplied K.kind (state self.old) res left right) }
+        ensures leaves { state self.new ≡ kept (state self.old) res (multiplied K.kind (state self.old) res left right) }
+        ensures blank { Blank K.kind self.old → Blank K.kind self.new }
+        ensures algebra { Multiplying K.kind (state self.old) (state self.new) result res left right }
     {
         if res > 7 || left > 7 || right > 7 {
             return Err(Refusal::Place);

@@ -24,7 +24,7 @@ impl<K: Ring> Sheet<'_, K> {
     ) -> Result<usize, Refusal>
         requires left { left < 9 }
         requires right { right < 9 }
-        ensures { Making kind 9 self.old self.new (product_truncated kind (state self.old).vars (state self.old).room count most (table self.old left) (table self.old right)) result }
+        ensures { Making K.kind 9 self.old self.new (product_truncated K.kind (state self.old).vars (state self.old).room count most (table self.old left) (table self.old right)) result }
     {
         self.areas.clear(10);
         let mut at = 10;
@@ -46,10 +46,10 @@ impl<K: Ring> Sheet<'_, K> {
         count: usize,
         most: u32,
     ) -> Result<(), Refusal>
-        ensures answer { result ≡ answered (multiplied_truncated kind (state self.old) res left right count most) }
-        ensures leaves { state self.new ≡ kept (state self.old) res (multiplied_truncated kind (state self.old) res left right count most) }
-        ensures blank { Blank kind self.old → Blank kind self.new }
-        ensures algebra { MultiplyingTruncated kind (state self.old) (state self.new) result res left right count most }
+        ensures answer { result ≡ answered (multiplied_truncated K.kind (state self.old) res left right count most) }
+        ensures leaves { state self.new ≡ kept (state self.old) res (multiplied_truncated K.kind (state self.old) res left right count most) }
+        ensures blank { Blank K.kind self.old → Blank K.kind self.new }
+        ensures algebra { MultiplyingTruncated K.kind (state self.old) (state self.new) result res left right count most }
     {
         if res > 7 || left > 7 || right > 7 {
             return Err(Refusal::Place);

@@ -15,7 +15,7 @@ use rows::Row;
 impl<K: Ring> Sheet<'_, K> {
     // The row with which a table is multiplied to give its negative.
     pub(crate) fn minus_one() -> Row<K>
-        ensures { result ≡ minus_one kind }
+        ensures { result ≡ minus_one K.kind }
     {
         Row {
             key: 0,
@@ -25,10 +25,10 @@ impl<K: Ring> Sheet<'_, K> {
 
     // Makes the negative of a place the rows of a place.
     pub fn negate(&mut self, res: usize, place: usize) -> Result<(), Refusal>
-        ensures answer { result ≡ answered (negated kind (state self.old) res place) }
-        ensures leaves { state self.new ≡ kept (state self.old) res (negated kind (state self.old) res place) }
-        ensures blank { Blank kind self.old → Blank kind self.new }
-        ensures algebra { Negating kind (state self.old) (state self.new) result res place }
+        ensures answer { result ≡ answered (negated K.kind (state self.old) res place) }
+        ensures leaves { state self.new ≡ kept (state self.old) res (negated K.kind (state self.old) res place) }
+        ensures blank { Blank K.kind self.old → Blank K.kind self.new }
+        ensures algebra { Negating K.kind (state self.old) (state self.new) result res place }
     {
         if res > 7 || place > 7 {
             return Err(Refusal::Place);

@@ -13,7 +13,7 @@ impl<'a, K: Ring> Sheet<'a, K> {
     // A sheet on the rows, with every place empty. What the rows held is gone.
     pub fn open(rows: &'a mut [Row<K>], format: Format) -> Sheet<'a, K>
         ensures state { state result ≡ opened (length rows.old) (variables format) }
-        ensures blank { Blank kind result }
+        ensures blank { Blank K.kind result }
     {
         let areas = Areas::open(rows);
         Sheet { areas, format }

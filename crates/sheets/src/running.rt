@@ -22,7 +22,7 @@ impl<K: Ring> Sheet<'_, K> {
     pub fn begin(&mut self)
         ensures empty { running self.new ≡ [] }
         ensures leaves { state self.new ≡ state self.old }
-        ensures neat { Neat kind self.old → Neat kind self.new }
+        ensures neat { Neat K.kind self.old → Neat K.kind self.new }
     {
         self.areas.clear(8);
     }
@@ -30,10 +30,10 @@ impl<K: Ring> Sheet<'_, K> {
     // Adds a row to the running table by a sum.
     fn merge(&mut self, row: Row<K>) -> Result<(), Refusal>
         requires { 0 < length (running self.old) }
-        ensures answer { result ≡ answered (limited (state self.old).room (sum kind (running self.old) (row ∷ []))) }
-        ensures made { running self.new ≡ rows_of (limited (state self.old).room (sum kind (running self.old) (row ∷ []))) }
+        ensures answer { result ≡ answered (limited (state self.old).room (sum K.kind (running self.old) (row ∷ []))) }
+        ensures made { running self.new ≡ rows_of (limited (state self.old).room (sum K.kind (running self.old) (row ∷ []))) }
         ensures leaves { state self.new ≡ state self.old }
-        ensures neat { Neat kind self.old → Neat kind self.new }
+        ensures neat { Neat K.kind self.old → Neat K.kind self.new }
     {
         self.areas.clear(10);
         self.areas.push(10, row)?;
@@ -44,10 +44,10 @@ impl<K: Ring> Sheet<'_, K> {
 
     // Adds a term to the running table. Refused, that is empty.
     pub fn enter(&mut self, key: u64, coefficient: K) -> Result<(), Refusal>
-        ensures answer { result ≡ answered (entering kind (state self.old).room (running self.old) (row_of key coefficient)) }
-        ensures made { running self.new ≡ rows_of (entering kind (state self.old).room (running self.old) (row_of key coefficient)) }
+        ensures answer { result ≡ answered (entering K.kind (state self.old).room (running self.old) (row_of key coefficient)) }
+        ensures made { running self.new ≡ rows_of (entering K.kind (state self.old).room (running self.old) (row_of key coefficient)) }
         ensures leaves { state self.new ≡ state self.old }
-        ensures neat { Neat kind self.old → Neat kind self.new }
+        ensures neat { Neat K.kind self.old → Neat K.kind self.new }
     {
         let row = Row { key, coefficient };
         if !below_last(key, self.areas.table(8)) {
@@ -64,7 +64,7 @@ impl<K: Ring> Sheet<'_, K> {
     pub fn store(&mut self, place: usize) -> Result<(), Refusal>
         ensures answer { result ≡ answered (storing_running self.old place) }
         ensures leaves { state self.new ≡ kept (state self.old) place (storing_running self.old place) }
-        ensures blank { Neat kind self.old → Blank kind self.new }
+        ensures blank { Neat K.kind self.old → Blank K.kind self.new }
     {
         if place > 7 {
             self.sweep();
@@ -76,7 +76,7 @@ impl<K: Ring> Sheet<'_, K> {
     // Gives the running table up.
     pub fn abandon(&mut self)
         ensures leaves { state self.new ≡ state self.old }
-        ensures blank { Neat kind self.old → Blank kind self.new }
+        ensures blank { Neat K.kind self.old → Blank K.kind self.new }
     {
         self.sweep();
     }

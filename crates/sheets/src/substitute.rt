@@ -20,7 +20,7 @@ impl<K: Ring> Sheet<'_, K> {
     // Multiplies the table in the area 9 by that of another area, `power` times over.
     pub(crate) fn raise(&mut self, right: usize, power: u16) -> Result<(), Refusal>
         requires { right < 9 }
-        ensures { Making kind 9 self.old self.new (raised kind (state self.old).vars (state self.old).room (table self.old right) (table self.old 9) power) (made_in 9 result) }
+        ensures { Making K.kind 9 self.old self.new (raised K.kind (state self.old).vars (state self.old).room (table self.old right) (table self.old 9) power) (made_in 9 result) }
     {
         for _i in 0..power {
             let at = self.product_in(9, right)?;
@@ -33,7 +33,7 @@ impl<K: Ring> Sheet<'_, K> {
     pub(crate) fn begin_term(&mut self, variable: usize, row: Row<K>) -> Result<(), Refusal>
         requires variable { variable < length (state self.old).vars }
         requires room { 0 < (state self.old).room }
-        ensures { Making kind 9 self.old self.new (Ok (row_of (with_power (state self.old).vars variable 0 row) row.coefficient ∷ [])) (made_in 9 result) }
+        ensures { Making K.kind 9 self.old self.new (Ok (row_of (with_power (state self.old).vars variable 0 row) row.coefficient ∷ [])) (made_in 9 result) }
     {
         let key = self.format.replace(row.key, variable, 0)?;
         self.areas.clear(9);
@@ -51,7 +51,7 @@ impl<K: Ring> Sheet<'_, K> {
         requires right { right < 8 }
         requires variable { variable < length (state self.old).vars }
         requires room { 0 < (state self.old).room }
-        ensures { Making kind 8 self.old self.new (continued (term_raised kind (state self.old).vars (state self.old).room variable (table self.old right) row) (λ ts. limited (state self.old).room (sum kind (table self.old 8) ts))) (made_in 8 result) }
+        ensures { Making K.kind 8 self.old self.new (continued (term_raised K.kind (state self.old).vars (state self.old).room variable (table self.old right) row) (λ ts. limited (state self.old).room (sum K.kind (table self.old 8) ts))) (made_in 8 result) }
     {
         let power = self.format.exponent(row.key, variable);
         self.begin_term(variable, row)?;
@@ -71,7 +71,7 @@ impl<K: Ring> Sheet<'_, K> {
         requires left { left < 8 }
         requires right { right < 8 }
         requires variable { variable < length (state self.old).vars }
-        ensures { Making kind 8 self.old self.new (substituted-rows kind (state self.old).vars (state self.old).room variable (table self.old right) [] (table self.old left)) result }
+        ensures { Making K.kind 8 self.old self.new (substituted-rows K.kind (state self.old).vars (state self.old).room variable (table self.old right) [] (table self.old left)) result }
     {
         self.areas.clear(8);
         for i in 0..self.areas.table(left).len() {
@@ -89,10 +89,10 @@ impl<K: Ring> Sheet<'_, K> {
         right: usize,
         variable: usize,
     ) -> Result<(), Refusal>
-        ensures answer { result ≡ answered (substituted kind (state self.old) res left right variable) }
-        ensures leaves { state self.new ≡ kept (state self.old) res (substituted kind (state self.old) res left right variable) }
-        ensures blank { Blank kind self.old → Blank kind self.new }
-        ensures algebra { Substituting kind (state self.old) (state self.new) result res left right variable }
+        ensures answer { result ≡ answered (substituted K.kind (state self.old) res left right variable) }
+        ensures leaves { state self.new ≡ kept (state self.old) res (substituted K.kind (state self.old) res left right variable) }
+        ensures blank { Blank K.kind self.old → Blank K.kind self.new }
+        ensures algebra { Substituting K.kind (state self.old) (state self.new) result res left right variable }
     {
         if res > 7 || left > 7 || right > 7 {
             return Err(Refusal::Place);

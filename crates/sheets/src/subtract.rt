@@ -13,10 +13,10 @@ use rings::Ring;
 impl<K: Ring> Sheet<'_, K> {
     // Makes the first place less the second the rows of a place.
     pub fn subtract(&mut self, res: usize, left: usize, right: usize) -> Result<(), Refusal>
-        ensures answer { result ≡ answered (subtracted kind (state self.old) res left right) }
-        ensures leaves { state self.new ≡ kept (state self.old) res (subtracted kind (state self.old) res left right) }
-        ensures blank { Blank kind self.old → Blank kind self.new }
-        ensures algebra { Subtracting kind (state self.old) (state self.new) result res left right }
+        ensures answer { result ≡ answered (subtracted K.kind (state self.old) res left right) }
+        ensures leaves { state self.new ≡ kept (state self.old) res (subtracted K.kind (state self.old) res left right) }
+        ensures blank { Blank K.kind self.old → Blank K.kind self.new }
+        ensures algebra { Subtracting K.kind (state self.old) (state self.new) result res left right }
     {
         if res > 7 || left > 7 || right > 7 {
             return Err(Refusal::Place);

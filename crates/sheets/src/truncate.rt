@@ -21,8 +21,8 @@ impl<K: Ring> Sheet<'_, K> {
     ) -> Result<(), Refusal>
         ensures answer { result ≡ answered (truncated (state self.old) res place count most) }
         ensures leaves { state self.new ≡ kept (state self.old) res (truncated (state self.old) res place count most) }
-        ensures blank { Blank kind self.old → Blank kind self.new }
-        ensures algebra { Truncating kind (state self.old) (state self.new) result res place count most }
+        ensures blank { Blank K.kind self.old → Blank K.kind self.new }
+        ensures algebra { Truncating K.kind (state self.old) (state self.new) result res place count most }
     {
         if res > 7 || place > 7 {
             return Err(Refusal::Place);

@@ -16,7 +16,7 @@ use rows::Row;
 impl<K: Ring> Sheet<'_, K> {
     // Makes one row, in a working area.
     pub(crate) fn single(&mut self, key: u64, coefficient: K) -> Result<usize, Refusal>
-        ensures { Making kind 8 self.old self.new (limited (state self.old).room (Ok (row key coefficient ∷ []))) result }
+        ensures { Making K.kind 8 self.old self.new (limited (state self.old).room (Ok (row key coefficient ∷ []))) result }
     {
         self.areas.clear(8);
         made_in(8, self.areas.push(8, Row { key, coefficient }))
@@ -24,10 +24,10 @@ impl<K: Ring> Sheet<'_, K> {
 
     // Makes a variable of the format, by its number, the rows of a place.
     pub fn variable(&mut self, res: usize, variable: usize) -> Result<(), Refusal>
-        ensures answer { result ≡ answered (variable-table kind (state self.old) res variable) }
-        ensures leaves { state self.new ≡ kept (state self.old) res (variable-table kind (state self.old) res variable) }
-        ensures blank { Blank kind self.old → Blank kind self.new }
-        ensures algebra { VariableOf kind (state self.old) (state self.new) result res variable }
+        ensures answer { result ≡ answered (variable-table K.kind (state self.old) res variable) }
+        ensures leaves { state self.new ≡ kept (state self.old) res (variable-table K.kind (state self.old) res variable) }
+        ensures blank { Blank K.kind self.old → Blank K.kind self.new }
+        ensures algebra { VariableOf K.kind (state self.old) (state self.new) result res variable }
     {
         if res > 7 {
             return Err(Refusal::Place);

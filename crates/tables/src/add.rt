@@ -13,9 +13,9 @@ use rings::Ring;
 impl<K: Ring> Sheet<'_, K> {
     // Makes the sum of two places the rows of a place.
     pub fn add(&mut self, res: usize, left: usize, right: usize) -> Result<(), Refusal>
-        ensures answer { result ≡ answered (add_answer kind (state self.old) res left right) }
-        ensures leaves { state self.new ≡ add_leaves kind (state self.old) res left right }
-        ensures algebra { Adding kind (state self.old) (state self.new) res left right result }
+        ensures answer { result ≡ answered (add_answer K.kind (state self.old) res left right) }
+        ensures leaves { state self.new ≡ add_leaves K.kind (state self.old) res left right }
+        ensures algebra { Adding K.kind (state self.old) (state self.new) res left right result }
     {
         if res > 7 || left > 7 || right > 7 {
             return Err(Refusal::Place);

@@ -9,7 +9,7 @@ use rows::Row;
 // Blanks `count` rows from `at` on.
 pub(crate) fn blank_rows<K: Ring>(rows: &mut [Row<K>], at: usize, count: usize)
     requires { at + count ≤ length rows.old }
-    ensures { rows.new ≡ put rows.old at (replicate count (blank kind)) }
+    ensures { rows.new ≡ put rows.old at (replicate count (blank K.kind)) }
 {
     for i in 0..count {
         rows[at + i] = Row {

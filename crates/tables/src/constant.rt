@@ -11,8 +11,8 @@ use rows::Row;
 impl<K: Ring> Sheet<'_, K> {
     // Makes the constant that two figures write the rows of a place.
     pub fn constant(&mut self, res: usize, first: i64, second: i64) -> Result<(), Refusal>
-        ensures answer { result ≡ answered (constant_answer kind (state self.old) res first second) }
-        ensures leaves { state self.new ≡ kept kind (state self.old) res (constant_answer kind (state self.old) res first second) }
+        ensures answer { result ≡ answered (constant_answer K.kind (state self.old) res first second) }
+        ensures leaves { state self.new ≡ kept K.kind (state self.old) res (constant_answer K.kind (state self.old) res first second) }
     {
         if res > 7 {
             return Err(Refusal::Place);

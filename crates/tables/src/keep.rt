@@ -29,7 +29,7 @@ impl<K: Ring> Sheet<'_, K> {
     pub(crate) fn keep(&mut self, place: usize, row: Option<Row<K>>)
         requires place { place < 8 }
         requires fits { length (option_to_list row) ≤ room (state self.old) }
-        ensures { state self.new ≡ stored kind (state self.old) place (option_to_list row) }
+        ensures { state self.new ≡ stored K.kind (state self.old) place (option_to_list row) }
     {
         let room = self.room();
         let old = self.count(place);

@@ -28,8 +28,8 @@ pub(crate) fn merge_rows<K: Ring>(
     room: usize,
 ) -> Result<usize, Refusal>
     requires { Mergeable rows.old left right at room }
-    ensures answer { result ≡ counted (limited room (sum kind (spanned rows.old left) (spanned rows.old right))) }
-    ensures filled { Filled (limited room (sum kind (spanned rows.old left) (spanned rows.old right))) rows.old at room rows.new }
+    ensures answer { result ≡ counted (limited room (sum K.kind (spanned rows.old left) (spanned rows.old right))) }
+    ensures filled { Filled (limited room (sum K.kind (spanned rows.old left) (spanned rows.old right))) rows.old at room rows.new }
 {
     let mut l = left;
     let mut r = right;

@@ -20,7 +20,7 @@ pub(crate) fn capacity_of(len: usize) -> usize
 impl<'a, K: Ring> Sheet<'a, K> {
     // A sheet on the rows, with every place empty. What the rows held is gone.
     pub fn open(rows: &'a mut [Row<K>], format: Format) -> Sheet<'a, K>
-        ensures { state result ≡ opened kind (length rows.old) (variables format) }
+        ensures { state result ≡ opened K.kind (length rows.old) (variables format) }
     {
         let len = rows.len();
         blank_rows(rows, 0, len);

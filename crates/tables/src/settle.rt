@@ -12,7 +12,7 @@ impl<K: Ring> Sheet<'_, K> {
     pub(crate) fn settle(&mut self, place: usize, count: usize)
         requires place { place < 8 }
         requires fits { count ≤ room (state self.old) }
-        ensures { state self.new ≡ cleared kind (room (state self.old)) (stored kind (state self.old) place (worked (state self.old) count)) count }
+        ensures { state self.new ≡ cleared K.kind (room (state self.old)) (stored K.kind (state self.old) place (worked (state self.old) count)) count }
     {
         let room = self.room();
         let old = self.count(place);

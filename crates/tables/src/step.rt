@@ -23,7 +23,7 @@ pub(crate) fn next_step<K: Ring>(
 ) -> Result<Step<K>, Refusal>
     requires within { Spans rows.now left right }
     requires some { left.from + right.from < left.to + right.to }
-    ensures next { MatchResult result (λ s. sum kind (spanned rows.now left) (spanned rows.now right) ≡ prepended s.row (sum kind (spanned rows.now s.left) (spanned rows.now s.right))) (λ e. sum kind (spanned rows.now left) (spanned rows.now right) ≡ Err e) }
+    ensures next { MatchResult result (λ s. sum K.kind (spanned rows.now left) (spanned rows.now right) ≡ prepended s.row (sum K.kind (spanned rows.now s.left) (spanned rows.now s.right))) (λ e. sum K.kind (spanned rows.now left) (spanned rows.now right) ≡ Err e) }
     ensures goes { IfOk result (λ s. Goes left right s.left s.right) }
 {
     if left.from >= left.to {

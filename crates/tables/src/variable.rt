@@ -11,8 +11,8 @@ use rows::Row;
 impl<K: Ring> Sheet<'_, K> {
     // Makes a variable of the format, by its number, the rows of a place.
     pub fn variable(&mut self, res: usize, variable: usize) -> Result<(), Refusal>
-        ensures answer { result ≡ answered (variable_answer kind (state self.old) res variable) }
-        ensures leaves { state self.new ≡ kept kind (state self.old) res (variable_answer kind (state self.old) res variable) }
+        ensures answer { result ≡ answered (variable_answer K.kind (state self.old) res variable) }
+        ensures leaves { state self.new ≡ kept K.kind (state self.old) res (variable_answer K.kind (state self.old) res variable) }
     {
         if res > 7 {
             return Err(Refusal::Place);

@@ -10,5 +10,5 @@ use rings::Ring;
 
 // A written deck is read back, a table has its own deck, and a text gives the sum of its terms.
 pub fn decks_of_tables<K: Ring>()
-    ensures { (vs : List VariableOf) → Sound vs → DecksOfTables kind vs }
+    ensures { (vs : List VariableOf) → Sound vs → DecksOfTables K.kind vs }
 {}

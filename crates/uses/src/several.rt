@@ -22,10 +22,10 @@ pub fn run<K: Ring>(
     output: &mut [u8],
 ) -> usize
     ensures count { result ≡ min (length calls.now) (length answers.old) }
-    ensures ran { (over : Over K) → Ran kind over (state sheet.old) (map (plain_call_of (length output.old)) (take result calls.now)) output.old (state sheet.new) (map answer_of (take result answers.new)) output.new }
+    ensures ran { (over : Over K) → Ran K.kind over (state sheet.old) (map (plain_call_of (length output.old)) (take result calls.now)) output.old (state sheet.new) (map answer_of (take result answers.new)) output.new }
     ensures others { drop result answers.new ≡ drop result answers.old }
-    ensures blank { Blank kind sheet.old → Blank kind sheet.new }
-    ensures promise { (over : Over K) (vs : List VariableOf) → Sound vs → Onward kind over vs false (state sheet.old) (map (plain_call_of (length output.old)) (take result calls.now)) (state sheet.new) }
+    ensures blank { Blank K.kind sheet.old → Blank K.kind sheet.new }
+    ensures promise { (over : Over K) (vs : List VariableOf) → Sound vs → Onward K.kind over vs false (state sheet.old) (map (plain_call_of (length output.old)) (take result calls.now)) (state sheet.new) }
 {
     let count = calls.len().min(answers.len());
     for i in 0..count {

@@ -14,10 +14,10 @@ use sheets::Sheet;
 
 // Performs a call on a sheet.
 pub fn perform<K: Ring>(sheet: &mut Sheet<'_, K>, call: Call<'_>, output: &mut [u8]) -> Answer<K>
-    ensures answer { (over : Over K) → answer_of result ≡ answer-in kind over (state sheet.old) (plain_call_of (length output.old) call.entry) }
-    ensures leaves { (over : Over K) → state sheet.new ≡ after kind over (state sheet.old) (plain_call_of (length output.old) call.entry) }
-    ensures output { output.new ≡ output_after kind (state sheet.old) (plain_call_of (length output.old) call.entry) output.old }
-    ensures blank { Blank kind sheet.old → Blank kind sheet.new }
+    ensures answer { (over : Over K) → answer_of result ≡ answer-in K.kind over (state sheet.old) (plain_call_of (length output.old) call.entry) }
+    ensures leaves { (over : Over K) → state sheet.new ≡ after K.kind over (state sheet.old) (plain_call_of (length output.old) call.entry) }
+    ensures output { output.new ≡ output_after K.kind (state sheet.old) (plain_call_of (length output.old) call.entry) output.old }
+    ensures blank { Blank K.kind sheet.old → Blank K.kind sheet.new }
 {
     match call {
         Call::Read(r, text) => counted(read(sheet, r, text)),

@@ -7,8 +7,8 @@ use Rattle.areas.proofs.copy.copy_rows.Goals as goal
 pub loop-i-init : goal.loop-i-init
 loop-i-init g c = sym (put-none c.args.rows.now c.args.to)
 
-pub offset-bounds-rows-from : goal.offset-bounds-rows-from
-offset-bounds-rows-from g c = let h : c.args.from + c.loop-i.i < length c.loop-i.rows = omega arith in search rules
+pub offset_bounds-rows-from : goal.offset_bounds-rows-from
+offset_bounds-rows-from g c = let h : c.args.from + c.loop-i.i < length c.loop-i.rows = omega arith in search rules
 
 pub loop-i-preserved : goal.loop-i-preserved
 loop-i-preserved g c =

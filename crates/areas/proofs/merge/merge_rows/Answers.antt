@@ -9,37 +9,37 @@ use Rattle.areas.proofs.merge.merge_rows.Goals as goal
 pub loop-factor-init : goal.loop-factor-init
 loop-factor-init g c = merging_none (giving g.K.Ring.kind c.args.factor) c.args.rows.now c.args.left c.args.right c.args.at c.args.room c.requires
 
-pub next-step-requires : goal.next-step-requires
-next-step-requires g c = record {
+pub next_step-requires : goal.next_step-requires
+next_step-requires g c = record {
   within = merging_spans (giving g.K.Ring.kind c.args.factor) c.args.rows.now c.args.left c.args.right c.args.at c.args.room c.requires c.loop-factor.rows c.loop-factor.merge c.loop-factor.count c.loop-factor.invariant;
   some = ltb-true 0 (unread c.loop-factor.merge) (sym c.unfinished.ensures ∙ c.loop-factor-test.true);
 }
 
-pub returns-in-err-step : goal.returns-in-err-step
-returns-in-err-step g c =
+pub returns-in_err-step : goal.returns-in_err-step
+returns-in_err-step g c =
     let p = err_from_is_err_and c.from-residual.result c.from-residual.ensures.1 in
-    let q = merging_refused (giving g.K.Ring.kind c.args.factor) c.args.rows.now c.args.left c.args.right c.args.at c.args.room c.requires c.loop-factor.rows c.loop-factor.merge c.loop-factor.count c.loop-factor.invariant c.in-err-step.field-0.0 c.in-err-step.ensures.next in
+    let q = merging_refused (giving g.K.Ring.kind c.args.factor) c.args.rows.now c.args.left c.args.right c.args.at c.args.room c.requires c.loop-factor.rows c.loop-factor.merge c.loop-factor.count c.loop-factor.invariant c.in_err-step.field-0.0 c.in_err-step.ensures.next in
     record { answer = p.1 ∙ ap Err p.2 ∙ q.0; filled = q.1 }
 
 pub loop-factor-preserved-in-Some : goal.loop-factor-preserved-in-Some
 loop-factor-preserved-in-Some g c =
-    merging_some (giving g.K.Ring.kind c.args.factor) c.args.rows.now c.args.left c.args.right c.args.at c.args.room c.requires c.loop-factor.rows c.loop-factor.merge c.loop-factor.count c.loop-factor.invariant c.in-ok-step.step.row c.in-ok-step.step.rest c.in-ok-step.ensures.goes c.in-Some.row c.in-Some.is
-    (c.in-ok-step.ensures.next ∙ ap (λ o. prepended o (remaining g.K.Ring.kind c.args.factor c.loop-factor.rows c.in-ok-step.step.rest)) c.in-Some.is)
-    c.put-row.new.rows (c.put-row.ensures ∙ ap (λ x. cond (ltb c.loop-factor.count c.args.room) (set c.loop-factor.rows (c.args.at + c.loop-factor.count) x) c.loop-factor.rows) c.in-Some.row-is)
+    merging_some (giving g.K.Ring.kind c.args.factor) c.args.rows.now c.args.left c.args.right c.args.at c.args.room c.requires c.loop-factor.rows c.loop-factor.merge c.loop-factor.count c.loop-factor.invariant c.in_ok-step.step.row c.in_ok-step.step.rest c.in_ok-step.ensures.goes c.in-Some.row c.in-Some.is
+    (c.in_ok-step.ensures.next ∙ ap (λ o. prepended o (remaining g.K.Ring.kind c.args.factor c.loop-factor.rows c.in_ok-step.step.rest)) c.in-Some.is)
+    c.put_row.new.rows (c.put_row.ensures ∙ ap (λ x. cond (ltb c.loop-factor.count c.args.room) (set c.loop-factor.rows (c.args.at + c.loop-factor.count) x) c.loop-factor.rows) c.in-Some.row-is)
 
 pub loop-factor-preserved : goal.loop-factor-preserved
 loop-factor-preserved g c =
-    merging_skip (giving g.K.Ring.kind c.args.factor) c.args.rows.now c.args.left c.args.right c.args.at c.args.room c.requires c.loop-factor.rows c.loop-factor.merge c.loop-factor.count c.loop-factor.invariant c.in-ok-step.step.row c.in-ok-step.step.rest c.in-ok-step.ensures.goes c.in-default.is
-    (c.in-ok-step.ensures.next ∙ ap (λ o. prepended o (remaining g.K.Ring.kind c.args.factor c.loop-factor.rows c.in-ok-step.step.rest)) c.in-default.is)
+    merging_skip (giving g.K.Ring.kind c.args.factor) c.args.rows.now c.args.left c.args.right c.args.at c.args.room c.requires c.loop-factor.rows c.loop-factor.merge c.loop-factor.count c.loop-factor.invariant c.in_ok-step.step.row c.in_ok-step.step.rest c.in_ok-step.ensures.goes c.in_default.is
+    (c.in_ok-step.ensures.next ∙ ap (λ o. prepended o (remaining g.K.Ring.kind c.args.factor c.loop-factor.rows c.in_ok-step.step.rest)) c.in_default.is)
 
 pub loop-factor-smaller-in-Some : goal.loop-factor-smaller-in-Some
-loop-factor-smaller-in-Some g c = merging_falls (giving g.K.Ring.kind c.args.factor) c.args.rows.now c.args.left c.args.right c.args.at c.args.room c.requires c.loop-factor.rows c.loop-factor.merge c.loop-factor.count c.loop-factor.invariant c.in-ok-step.step.row c.in-ok-step.step.rest c.in-ok-step.ensures.goes
+loop-factor-smaller-in-Some g c = merging_falls (giving g.K.Ring.kind c.args.factor) c.args.rows.now c.args.left c.args.right c.args.at c.args.room c.requires c.loop-factor.rows c.loop-factor.merge c.loop-factor.count c.loop-factor.invariant c.in_ok-step.step.row c.in_ok-step.step.rest c.in_ok-step.ensures.goes
 
 pub loop-factor-smaller : goal.loop-factor-smaller
-loop-factor-smaller g c = merging_falls (giving g.K.Ring.kind c.args.factor) c.args.rows.now c.args.left c.args.right c.args.at c.args.room c.requires c.loop-factor.rows c.loop-factor.merge c.loop-factor.count c.loop-factor.invariant c.in-ok-step.step.row c.in-ok-step.step.rest c.in-ok-step.ensures.goes
+loop-factor-smaller g c = merging_falls (giving g.K.Ring.kind c.args.factor) c.args.rows.now c.args.left c.args.right c.args.at c.args.room c.requires c.loop-factor.rows c.loop-factor.merge c.loop-factor.count c.loop-factor.invariant c.in_ok-step.step.row c.in_ok-step.step.rest c.in_ok-step.ensures.goes
 
-pub overflow-add-count : goal.overflow-add-count
-overflow-add-count g c = record { fits = merging_count (giving g.K.Ring.kind c.args.factor) c.args.rows.now c.args.left c.args.right c.args.at c.args.room c.requires c.loop-factor.rows c.loop-factor.merge c.loop-factor.count c.loop-factor.invariant c.in-ok-step.step.row c.in-ok-step.step.rest c.in-ok-step.ensures.goes c.in-Some.row c.in-Some.is }
+pub overflow_add-count : goal.overflow_add-count
+overflow_add-count g c = record { fits = merging_count (giving g.K.Ring.kind c.args.factor) c.args.rows.now c.args.left c.args.right c.args.at c.args.room c.requires c.loop-factor.rows c.loop-factor.merge c.loop-factor.count c.loop-factor.invariant c.in_ok-step.step.row c.in_ok-step.step.rest c.in_ok-step.ensures.goes c.in-Some.row c.in-Some.is }
 
 pub returns-then-count-room : goal.returns-then-count-room
 returns-then-count-room g c =

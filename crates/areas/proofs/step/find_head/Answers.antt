@@ -11,15 +11,15 @@ returns-then-right g c =
     let q = subst (Next K c.args.factor c.args.rows.now m c.requires.within) (sym (c.stepped.ensures ∙ ap (λ a. stepped (Some c.index-rows-left.result) a m.right None) c.after.ensures)) p in
     record { next = q.next; goes = q.goes }
 
-pub returns-in-err-head : goal.returns-in-err-head
-returns-in-err-head g c =
+pub returns-in_err-head : goal.returns-in_err-head
+returns-in_err-head g c =
     let p = err_from_is_err_and c.from-residual.result c.from-residual.ensures.1 in
-    rw p.1 (record { next = head_refused g.K.Ring.kind c.args.factor c.args.rows.now c.args.merge c.requires.within c.requires.none c.if-right.false c.index-rows-right.result c.index-rows-right.is _ (sym c.product.ensures ∙ c.in-err-head.was) ∙ ap Err (sym p.2); goes = tt })
+    rw p.1 (record { next = head_refused g.K.Ring.kind c.args.factor c.args.rows.now c.args.merge c.requires.within c.requires.none c.if-right.false c.index-rows-right.result c.index-rows-right.is _ (sym c.product.ensures ∙ c.in_err-head.was) ∙ ap Err (sym p.2); goes = tt })
 
 pub returns : goal.returns
 returns g c =
     let K = g.K.Ring.kind in
     let m = c.args.merge in
-    let p = head_found K c.args.factor c.args.rows.now m c.requires.within c.requires.none c.if-right.false c.index-rows-right.result c.index-rows-right.is c.in-ok-head.head (sym c.product.ensures ∙ c.in-ok-head.was) in
-    let q = subst (Next K c.args.factor c.args.rows.now m c.requires.within) (sym (c.stepped-2.ensures ∙ ap (λ a. stepped None m.left a c.in-ok-head.head) c.after-2.ensures)) p in
+    let p = head_found K c.args.factor c.args.rows.now m c.requires.within c.requires.none c.if-right.false c.index-rows-right.result c.index-rows-right.is c.in_ok-head.head (sym c.product.ensures ∙ c.in_ok-head.was) in
+    let q = subst (Next K c.args.factor c.args.rows.now m c.requires.within) (sym (c.stepped-2.ensures ∙ ap (λ a. stepped None m.left a c.in_ok-head.head) c.after-2.ensures)) p in
     record { next = q.next; goes = q.goes }

@@ -27,15 +27,15 @@ returns-then-b-a g c =
     let q = subst (Next K c.args.factor c.args.rows.now m c.requires.within) (sym c.stepped-then-b-a.ensures) p in
     record { next = q.next; goes = q.goes }
 
-pub returns-in-err-coefficient : goal.returns-in-err-coefficient
-returns-in-err-coefficient g c =
+pub returns-in_err-coefficient : goal.returns-in_err-coefficient
+returns-in_err-coefficient g c =
     let p = err_from_is_err_and c.from-residual.result c.from-residual.ensures.1 in
-    rw p.1 (record { next = equal-refused g.K.Ring.kind c.args.factor c.args.rows.now c.args.merge c.requires.within _ (c.in-Some.is ∙ ap Some (sym c.in-Some.b-is)) c.if-left.false c.index-rows-left.result c.index-rows-left.is g.met.K.Ring.values c.if-a-b.false c.if-b-a.false _ (sym c.plus.ensures ∙ c.in-err-coefficient.was) ∙ ap Err (sym p.2); goes = tt })
+    rw p.1 (record { next = equal-refused g.K.Ring.kind c.args.factor c.args.rows.now c.args.merge c.requires.within _ (c.in-Some.is ∙ ap Some (sym c.in-Some.b-is)) c.if-left.false c.index-rows-left.result c.index-rows-left.is g.met.K.Ring.values c.if-a-b.false c.if-b-a.false _ (sym c.plus.ensures ∙ c.in_err-coefficient.was) ∙ ap Err (sym p.2); goes = tt })
 
 pub returns : goal.returns
 returns g c =
     let K = g.K.Ring.kind in
     let m = c.args.merge in
-    let p = equal-added K c.args.factor c.args.rows.now m c.requires.within _ (c.in-Some.is ∙ ap Some (sym c.in-Some.b-is)) c.if-left.false c.index-rows-left.result c.index-rows-left.is g.met.K.Ring.values c.if-a-b.false c.if-b-a.false c.in-ok-coefficient.coefficient (sym c.plus.ensures ∙ c.in-ok-coefficient.was) in
+    let p = equal-added K c.args.factor c.args.rows.now m c.requires.within _ (c.in-Some.is ∙ ap Some (sym c.in-Some.b-is)) c.if-left.false c.index-rows-left.result c.index-rows-left.is g.met.K.Ring.values c.if-a-b.false c.if-b-a.false c.in_ok-coefficient.coefficient (sym c.plus.ensures ∙ c.in_ok-coefficient.was) in
     let q = subst (Next K c.args.factor c.args.rows.now m c.requires.within) (sym (c.stepped-2.ensures ∙ (λ i. stepped (c.nonzero.ensures i) (c.after-2.ensures i) m.right None))) p in
     record { next = q.next; goes = q.goes }

@@ -10,6 +10,6 @@ returns g c =
     let vs = variables c.args.format.now in
     let same = unpacked vs c.args.row.key c.count-count.result c.unpack-exponents.result c.unpack-exponents.ensures.exponents c.count-count.ensures in
     let long = length_card (figures g.K.Ring.kind c.args.row.coefficient) (exponents (unpack vs c.args.row.key)) in
-    let e = c.exponents-len.ensures.len ∙ ap (λ l. length (exponents l)) same in
-    let f = c.figures-len.ensures in
-    record { len = omega (arith, long, e, f.len); few = omega (arith, f.few, c.exponents-len.ensures.few) }
+    let e = c.exponents_len.ensures.len ∙ ap (λ l. length (exponents l)) same in
+    let f = c.figures_len.ensures in
+    record { len = omega (arith, long, e, f.len); few = omega (arith, f.few, c.exponents_len.ensures.few) }

@@ -6,13 +6,13 @@ use Rattle.cards.proofs.deck.deck_len.Goals as goal
 pub loop-row-init : goal.loop-row-init
 loop-row-init g c =
     let e = length_ending g.K.Ring.kind c.zero.result c.zero.ensures in
-    let f = c.figures-len-len.ensures in
+    let f = c.figures_len-len.ensures in
     (omega (arith, e, f.len), omega (arith, f.few))
 
 pub loop-row-preserved : goal.loop-row-preserved
 loop-row-preserved g c =
     let step = deck-step g.K.Ring.kind (variables c.args.format.now) c.args.rows.now c.loop-row.row-index c.row-item.result c.loop-row-test.true c.row-item.is in
-    let f = c.card-len-len.ensures in
+    let f = c.card_len-len.ensures in
     let i = c.loop-row.invariant in
     (omega (arith, step, f.len, i.0), omega (arith, f.few, i.1))
 

@@ -7,7 +7,7 @@ use Rattle.cards.proofs.exponents.exponents_len.Goals as goal
 pub loop-i-preserved : goal.loop-i-preserved
 loop-i-preserved c =
     let p = ap length (exponents-push c.args.list.now c.loop-i.i c.loop-i-test.true) ∙ length-append (exponents (take c.loop-i.i c.args.list.now)) (item c.loop-i.i (get_or c.args.list.now c.loop-i.i 0)) in
-    let e = c.item-len-len.ensures in
+    let e = c.item_len-len.ensures in
     let i = c.loop-i.invariant in
     (omega (arith, p, e.len, i.0), omega arith)
 

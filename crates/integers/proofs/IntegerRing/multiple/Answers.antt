@@ -8,8 +8,8 @@ use Rattle.integers.proofs.IntegerRing.multiple.Goals.{After-member}
 few : (c : After-member) → nat_abs c.from.result ≤ 134_217_727
 few c = let e = ap nat_abs c.from.ensures in let h = c.ranges.n.fits in omega arith
 
-pub overflow-mul-from : goal.overflow-mul-from
-overflow-mul-from c = bits_product_fits c.from.result c.member.result (few c) c.member.ensures.small
+pub overflow_mul-from : goal.overflow_mul-from
+overflow_mul-from c = bits_product_fits c.from.result c.member.result (few c) c.member.ensures.small
 
 pub returns : goal.returns
 returns c =

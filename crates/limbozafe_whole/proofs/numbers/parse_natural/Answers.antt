@@ -27,5 +27,5 @@ loop-b-preserved c =
 
 pub returns : goal.returns
 returns c =
-    let some : 0 < length c.args.word.now = let f = eqb-false (length c.args.word.now) 0 (sym c.if-is-empty.ensures) in omega (arith, f) in
+    let some : 0 < length c.args.word.now = let f = eqb-false (length c.args.word.now) 0 (sym c.if-is_empty.ensures) in omega (arith, f) in
     sym (at_drop_all (reads c.loop-b.n) c.args.word.now c.loop-b.b-index c.loop-b-test.false) ∙ c.loop-b.invariant ∙ natural-some c.args.word.now some

@@ -11,5 +11,5 @@ returns-else-n-lt10 t c =
     let h = c.ranges.n.fits in
     let step : length (decimal c.args.n) ≡ length (decimal (c.args.n / 10)) + 1 = ap length (decimal_step c.args.n c.if-n-lt10.false h) ∙ length_push (decimal (c.args.n / 10)) _ in
     let few = length-decimal-le 20 c.args.n (omega arith) (omega arith) h in
-    let e = c.decimal-len.ensures.len in
+    let e = c.decimal_len.ensures.len in
     record { len = omega arith; few = omega arith }

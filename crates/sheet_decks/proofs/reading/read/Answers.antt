@@ -8,11 +8,11 @@ use Rattle.sheet_decks.proofs.reading.read.Goals as goal
 pub returns-in-Ok-store : goal.returns-in-Ok-store
 returns-in-Ok-store g c =
     let m = g.met.K.Ring in
-    let e = ended-read g.K.Ring.kind c.args.sheet.now c.args.place c.args.text.now (omega arith) c.begin.new.self c.read-deck.new.sheet c.begin.ensures.leaves c.read-deck.result c.read-deck.ensures.answer c.read-deck.ensures.leaves m.ring m.values m.writing c.in-Ok.bytes c.in-Ok.is c.store.new.self c.store.ensures.leaves in
+    let e = ended-read g.K.Ring.kind c.args.sheet.now c.args.place c.args.text.now (omega arith) c.begin.new.self c.read_deck.new.sheet c.begin.ensures.leaves c.read_deck.result c.read_deck.ensures.answer c.read_deck.ensures.leaves m.ring m.values m.writing c.in-Ok.bytes c.in-Ok.is c.store.new.self c.store.ensures.leaves in
     record {
       answer = e.answer;
       leaves = e.leaves;
-      blank = λ b. c.store.ensures.blank (c.read-deck.ensures.neat (c.begin.ensures.neat b.tidy));
+      blank = λ b. c.store.ensures.blank (c.read_deck.ensures.neat (c.begin.ensures.neat b.tidy));
       algebra = e.algebra;
     }
 
@@ -21,10 +21,10 @@ returns-in-Err-store g c = absurd (not_refused _ _ (sym c.in-Err-store.is ∙ c.
 
 pub returns-in-Err : goal.returns-in-Err
 returns-in-Err g c =
-    let e = ended-refused g.K.Ring.kind c.args.sheet.now c.args.place c.args.text.now (omega arith) c.begin.new.self c.read-deck.new.sheet c.begin.ensures.leaves c.read-deck.result c.read-deck.ensures.answer c.read-deck.ensures.leaves c.in-Err.fault c.in-Err.is c.give-up.new.sheet c.give-up.ensures.leaves in
+    let e = ended-refused g.K.Ring.kind c.args.sheet.now c.args.place c.args.text.now (omega arith) c.begin.new.self c.read_deck.new.sheet c.begin.ensures.leaves c.read_deck.result c.read_deck.ensures.answer c.read_deck.ensures.leaves c.in-Err.fault c.in-Err.is c.give_up.new.sheet c.give_up.ensures.leaves in
     record {
-      answer = ap Err c.give-up.ensures.answer ∙ e.answer;
+      answer = ap Err c.give_up.ensures.answer ∙ e.answer;
       leaves = e.leaves;
-      blank = λ b. c.give-up.ensures.blank (c.read-deck.ensures.neat (c.begin.ensures.neat b.tidy));
+      blank = λ b. c.give_up.ensures.blank (c.read_deck.ensures.neat (c.begin.ensures.neat b.tidy));
       algebra = e.algebra;
     }

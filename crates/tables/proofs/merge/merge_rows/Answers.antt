@@ -8,22 +8,22 @@ use Rattle.tables.proofs.merge.merge_rows.Goals as goal
 pub loop-l-init : goal.loop-l-init
 loop-l-init g c = merging_none g.K.Ring.kind c.args.rows.now c.args.left c.args.right c.args.at c.args.room c.requires
 
-pub returns-in-err-step : goal.returns-in-err-step
-returns-in-err-step g c =
+pub returns-in_err-step : goal.returns-in_err-step
+returns-in_err-step g c =
     let p = err_from_is_err_and c.from-residual.result c.from-residual.ensures.1 in
-    let q = merging_refused g.K.Ring.kind c.args.rows.now c.args.left c.args.right c.args.at c.args.room c.requires c.loop-l.rows c.loop-l.l c.loop-l.r c.loop-l.count c.loop-l.invariant c.in-err-step.field-0.0 c.in-err-step.ensures.next in
+    let q = merging_refused g.K.Ring.kind c.args.rows.now c.args.left c.args.right c.args.at c.args.room c.requires c.loop-l.rows c.loop-l.l c.loop-l.r c.loop-l.count c.loop-l.invariant c.in_err-step.field-0.0 c.in_err-step.ensures.next in
     record { answer = p.1 ∙ ap Err p.2 ∙ q.0; filled = q.1 }
 
 pub loop-l-preserved-in-Some : goal.loop-l-preserved-in-Some
 loop-l-preserved-in-Some g c =
-    merging_some g.K.Ring.kind c.args.rows.now c.args.left c.args.right c.args.at c.args.room c.requires c.loop-l.rows c.loop-l.l c.loop-l.r c.loop-l.count c.loop-l.invariant c.in-ok-step.step.left c.in-ok-step.step.right c.in-ok-step.ensures.goes c.in-Some.row
-    (c.in-ok-step.ensures.next ∙ ap (λ o. prepended o (sum g.K.Ring.kind (spanned c.loop-l.rows c.in-ok-step.step.left) (spanned c.loop-l.rows c.in-ok-step.step.right))) c.in-Some.is)
-    c.put-row.new.rows (c.put-row.ensures ∙ ap (λ x. cond (ltb c.loop-l.count c.args.room) (set c.loop-l.rows (c.args.at + c.loop-l.count) x) c.loop-l.rows) c.in-Some.row-is)
+    merging_some g.K.Ring.kind c.args.rows.now c.args.left c.args.right c.args.at c.args.room c.requires c.loop-l.rows c.loop-l.l c.loop-l.r c.loop-l.count c.loop-l.invariant c.in_ok-step.step.left c.in_ok-step.step.right c.in_ok-step.ensures.goes c.in-Some.row
+    (c.in_ok-step.ensures.next ∙ ap (λ o. prepended o (sum g.K.Ring.kind (spanned c.loop-l.rows c.in_ok-step.step.left) (spanned c.loop-l.rows c.in_ok-step.step.right))) c.in-Some.is)
+    c.put_row.new.rows (c.put_row.ensures ∙ ap (λ x. cond (ltb c.loop-l.count c.args.room) (set c.loop-l.rows (c.args.at + c.loop-l.count) x) c.loop-l.rows) c.in-Some.row-is)
 
 pub loop-l-preserved : goal.loop-l-preserved
 loop-l-preserved g c =
-    merging_skip g.K.Ring.kind c.args.rows.now c.args.left c.args.right c.args.at c.args.room c.requires c.loop-l.rows c.loop-l.l c.loop-l.r c.loop-l.count c.loop-l.invariant c.in-ok-step.step.left c.in-ok-step.step.right c.in-ok-step.ensures.goes
-    (c.in-ok-step.ensures.next ∙ ap (λ o. prepended o (sum g.K.Ring.kind (spanned c.loop-l.rows c.in-ok-step.step.left) (spanned c.loop-l.rows c.in-ok-step.step.right))) c.in-default.is)
+    merging_skip g.K.Ring.kind c.args.rows.now c.args.left c.args.right c.args.at c.args.room c.requires c.loop-l.rows c.loop-l.l c.loop-l.r c.loop-l.count c.loop-l.invariant c.in_ok-step.step.left c.in_ok-step.step.right c.in_ok-step.ensures.goes
+    (c.in_ok-step.ensures.next ∙ ap (λ o. prepended o (sum g.K.Ring.kind (spanned c.loop-l.rows c.in_ok-step.step.left) (spanned c.loop-l.rows c.in_ok-step.step.right))) c.in_default.is)
 
 pub returns-then-count-room : goal.returns-then-count-room
 returns-then-count-room g c =

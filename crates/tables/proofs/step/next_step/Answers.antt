@@ -3,7 +3,7 @@ use Rattle.rows.specs.Tables.{row}
 use Rattle.std.proofs.lemmas.Result.{err_from_is_err_and}
 use Rattle.tables.proofs.Steps.{only_right, only_left, greater-left, greater-right, equal-refused, equal-added}
 use Rattle.tables.proofs.step.next_step.Goals as goal
-use Rattle.tables.proofs.step.next_step.Goals.{then-is-zero, else-is-zero}
+use Rattle.tables.proofs.step.next_step.Goals.{then-is_zero, else-is_zero}
 
 pub returns-then-left : goal.returns-then-left
 returns-then-left g c =
@@ -25,13 +25,13 @@ returns-then-b-a g c =
     let p = greater-right g.K.Ring.kind c.args.rows.now c.args.left c.args.right c.requires.within c.if-left.false c.if-right.false c.index-rows-left-2.result c.index-rows-right-2.result c.index-rows-left-2.is c.index-rows-right-2.is c.if-b-a.true c.after-then-b-a.result c.after-then-b-a.ensures in
     record { next = p.0; goes = p.1 }
 
-pub returns-in-err-coefficient : goal.returns-in-err-coefficient
-returns-in-err-coefficient g c =
+pub returns-in_err-coefficient : goal.returns-in_err-coefficient
+returns-in_err-coefficient g c =
     let p = err_from_is_err_and c.from-residual.result c.from-residual.ensures.1 in
-    rw p.1 (record { next = equal-refused g.K.Ring.kind c.args.rows.now c.args.left c.args.right c.requires.within c.if-left.false c.if-right.false c.index-rows-left-2.result c.index-rows-right-2.result c.index-rows-left-2.is c.index-rows-right-2.is c.if-a-b.false c.if-b-a.false _ (sym c.plus.ensures ∙ c.in-err-coefficient.was) ∙ ap Err (sym p.2); goes = tt })
+    rw p.1 (record { next = equal-refused g.K.Ring.kind c.args.rows.now c.args.left c.args.right c.requires.within c.if-left.false c.if-right.false c.index-rows-left-2.result c.index-rows-right-2.result c.index-rows-left-2.is c.index-rows-right-2.is c.if-a-b.false c.if-b-a.false _ (sym c.plus.ensures ∙ c.in_err-coefficient.was) ∙ ap Err (sym p.2); goes = tt })
 
 pub returns : goal.returns
 returns g c =
-    let ways : ((c.is-zero.result ≡ true) × (c.if-is-zero.row ≡ None)) ⊎ ((c.is-zero.result ≡ false) × (c.if-is-zero.row ≡ Some (row c.index-rows-left-2.result.key c.in-ok-coefficient.coefficient))) = elim c.if-is-zero.branch [ then-is-zero w ↦ inl (w.if-is-zero.true, w.row-is) | else-is-zero w ↦ inr (w.if-is-zero.false, w.row-is) ] in
-    let p = equal-added g.K.Ring.kind c.args.rows.now c.args.left c.args.right c.requires.within c.if-left.false c.if-right.false c.index-rows-left-2.result c.index-rows-right-2.result c.index-rows-left-2.is c.index-rows-right-2.is c.if-a-b.false c.if-b-a.false c.in-ok-coefficient.coefficient (sym c.plus.ensures ∙ c.in-ok-coefficient.was) c.is-zero.result c.is-zero.ensures c.if-is-zero.row ways c.after-2.result c.after-3.result c.after-2.ensures c.after-3.ensures in
+    let ways : ((c.is_zero.result ≡ true) × (c.if-is_zero.row ≡ None)) ⊎ ((c.is_zero.result ≡ false) × (c.if-is_zero.row ≡ Some (row c.index-rows-left-2.result.key c.in_ok-coefficient.coefficient))) = elim c.if-is_zero.branch [ then-is_zero w ↦ inl (w.if-is_zero.true, w.row-is) | else-is_zero w ↦ inr (w.if-is_zero.false, w.row-is) ] in
+    let p = equal-added g.K.Ring.kind c.args.rows.now c.args.left c.args.right c.requires.within c.if-left.false c.if-right.false c.index-rows-left-2.result c.index-rows-right-2.result c.index-rows-left-2.is c.index-rows-right-2.is c.if-a-b.false c.if-b-a.false c.in_ok-coefficient.coefficient (sym c.plus.ensures ∙ c.in_ok-coefficient.was) c.is_zero.result c.is_zero.ensures c.if-is_zero.row ways c.after-2.result c.after-3.result c.after-2.ensures c.after-3.ensures in
     record { next = p.0; goes = p.1 }

@@ -25,7 +25,7 @@ loop-i-preserved g c =
     let x = c.taken-call.result in
     let long = c.loop-i.auto.output in
     let P = c.put.ensures in
-    (subst (λ l. Turn K g.K.Domain.quotient (domain_call_of n) (state c.args.sheet.now) c.args.calls.now c.args.output.now c.args.answers.now (c.loop-i.i + 1) (state c.perform-domain-answer.new.sheet) l c.perform-domain-answer.new.output) (sym P) (turn_more K g.K.Domain.quotient (domain_call_of n) (state c.args.sheet.now) c.args.calls.now c.args.output.now c.args.answers.now c.loop-i.i t (state c.perform-domain-answer.new.sheet) c.loop-i.answers c.perform-domain-answer.result c.loop-i.output c.perform-domain-answer.new.output x (omega arith) (omega arith) (omega arith) c.taken-call.ensures c.loop-i.invariant.0 (c.perform-domain-answer.ensures.leaves ∙ ap (λ m. after K g.K.Domain.quotient t (domain_call_of m x)) long) (c.perform-domain-answer.ensures.answer ∙ ap (λ m. answer K g.K.Domain.quotient t (domain_call_of m x)) long) (c.perform-domain-answer.ensures.output ∙ ap (λ m. output_after K t (domain_call_of m x) c.loop-i.output) long)), λ b. c.perform-domain-answer.ensures.blank (c.loop-i.invariant.1 b))
+    (subst (λ l. Turn K g.K.Domain.quotient (domain_call_of n) (state c.args.sheet.now) c.args.calls.now c.args.output.now c.args.answers.now (c.loop-i.i + 1) (state c.perform_domain-answer.new.sheet) l c.perform_domain-answer.new.output) (sym P) (turn_more K g.K.Domain.quotient (domain_call_of n) (state c.args.sheet.now) c.args.calls.now c.args.output.now c.args.answers.now c.loop-i.i t (state c.perform_domain-answer.new.sheet) c.loop-i.answers c.perform_domain-answer.result c.loop-i.output c.perform_domain-answer.new.output x (omega arith) (omega arith) (omega arith) c.taken-call.ensures c.loop-i.invariant.0 (c.perform_domain-answer.ensures.leaves ∙ ap (λ m. after K g.K.Domain.quotient t (domain_call_of m x)) long) (c.perform_domain-answer.ensures.answer ∙ ap (λ m. answer K g.K.Domain.quotient t (domain_call_of m x)) long) (c.perform_domain-answer.ensures.output ∙ ap (λ m. output_after K t (domain_call_of m x) c.loop-i.output) long)), λ b. c.perform_domain-answer.ensures.blank (c.loop-i.invariant.1 b))
 
 pub returns : goal.returns
 returns g c =

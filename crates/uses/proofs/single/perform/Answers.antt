@@ -105,5 +105,5 @@ returns-in-MultiplyTruncate g c =
     let s = state c.args.sheet.now in
     let out = c.args.output.now in
     let w = c.in-MultiplyTruncate in
-    let p = changes K s out c.args.call _ w.is (call.multiplied_truncated K s w.r w.p w.q w.k w.n) w.r c.multiply-truncated.result c.done-in-MultiplyTruncate.result (state c.multiply-truncated.new.self) (λ over. refl) (λ over. refl) refl c.done-in-MultiplyTruncate.ensures c.multiply-truncated.ensures.answer c.multiply-truncated.ensures.leaves in
-    record { answer = p.answer; leaves = p.leaves; output = p.output; blank = c.multiply-truncated.ensures.blank }
+    let p = changes K s out c.args.call _ w.is (call.multiplied_truncated K s w.r w.p w.q w.k w.n) w.r c.multiply_truncated.result c.done-in-MultiplyTruncate.result (state c.multiply_truncated.new.self) (λ over. refl) (λ over. refl) refl c.done-in-MultiplyTruncate.ensures c.multiply_truncated.ensures.answer c.multiply_truncated.ensures.leaves in
+    record { answer = p.answer; leaves = p.leaves; output = p.output; blank = c.multiply_truncated.ensures.blank }

@@ -9,5 +9,5 @@ pub returns : goal.returns
 returns g c =
     let n = length c.args.rows.now in
     let K = g.K.Ring.kind in
-    let e = c.blank-rows.ensures ∙ put_all c.args.rows.now (replicate n (blank K)) (length-replicate n (blank K)) in
-    record { holds = opened K n c.blank-rows.new.rows e; tidy = opened-tidy K n c.blank-rows.new.rows e }
+    let e = c.blank_rows.ensures ∙ put_all c.args.rows.now (replicate n (blank K)) (length-replicate n (blank K)) in
+    record { holds = opened K n c.blank_rows.new.rows e; tidy = opened-tidy K n c.blank_rows.new.rows e }

@@ -13,8 +13,8 @@ returns-then-count-room g c =
     let p = push-over g.K.Ring.kind s.rows.now s.counts twelve c.args.area (omega arith) c.args.row (omega arith) in
     record { answer = ap answered (sym p); leaves = ap (kept (contents s) c.args.area) (sym p); tidy = λ t. t }
 
-pub offset-bounds-self-area : goal.offset-bounds-self-area
-offset-bounds-self-area g c =
+pub offset_bounds-self-area : goal.offset_bounds-self-area
+offset_bounds-self-area g c =
     let a = area_end c.args.area (length c.args.self.now.rows.now) (omega arith) in
     let m = ap (λ n. c.args.area * n) c.room-room.ensures in
     let h : c.args.area * c.room-room.result + c.count-count.result < length c.args.self.now.rows.now = omega arith in

@@ -7,15 +7,15 @@ pub returns-then-area-counts : goal.returns-then-area-counts
 returns-then-area-counts g c =
     sym (no_table c.args.self.now.rows.now c.args.self.now.counts c.args.area (omega arith))
 
-pub offset-bounds-self-from : goal.offset-bounds-self-from
-offset-bounds-self-from g c =
+pub offset_bounds-self-from : goal.offset_bounds-self-from
+offset_bounds-self-from g c =
     let a = area_end c.args.area (length c.args.self.now.rows.now) (omega arith) in
     let m = ap (λ n. c.args.area * n) c.room.ensures in
     let h : c.args.area * c.room.result ≤ length c.args.self.now.rows.now = omega arith in
     search rules
 
-pub slice-bounds-result-end-2 : goal.slice-bounds-result-end-2
-slice-bounds-result-end-2 g c =
+pub slice_bounds-result-end-2 : goal.slice_bounds-result-end-2
+slice_bounds-result-end-2 g c =
     let a = area_end c.args.area (length c.args.self.now.rows.now) (omega arith) in
     let m = ap (λ n. c.args.area * n) c.room.ensures in
     let h : c.args.area * c.room.result + c.count.result ≤ length c.args.self.now.rows.now = omega arith in

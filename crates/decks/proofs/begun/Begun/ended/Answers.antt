@@ -3,11 +3,11 @@ use Rattle.texts.specs.Numbers.{Number}
 use Rattle.decks.proofs.Values.{cast_fits, negative_fits, value-negative, value_positive}
 use Rattle.decks.proofs.begun.Begun.ended.Goals as goal
 
-pub overflow-cast-size : goal.overflow-cast-size
-overflow-cast-size c = cast_fits c.args.self.size c.args.self.digits c.args.self.few c.args.self.small
+pub overflow_cast-size : goal.overflow_cast-size
+overflow_cast-size c = cast_fits c.args.self.size c.args.self.digits c.args.self.few c.args.self.small
 
-pub overflow-sub-value : goal.overflow-sub-value
-overflow-sub-value c = negative_fits c.args.self.size c.args.self.digits c.args.self.few c.args.self.small
+pub overflow_sub-value : goal.overflow_sub-value
+overflow_sub-value c = negative_fits c.args.self.size c.args.self.digits c.args.self.few c.args.self.small
 
 pub returns-then-self : goal.returns-then-self
 returns-then-self c =

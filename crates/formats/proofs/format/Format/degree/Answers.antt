@@ -10,6 +10,6 @@ returns-else-count-variables c =
     let vs = c.variables-variables.result.now in
     let u = unpack vs c.args.key in
     let l = length_unpack vs c.args.key in
-    c.degree-of-else-count-variables.ensures
+    c.degree_of-else-count-variables.ensures
     ∙ ap degree (take_all (length vs) u (omega arith) ∙ sym (take_all c.args.count u (omega (arith, c.if-count-variables.false))))
     ∙ ap (λ l. degree (take c.args.count (unpack l c.args.key))) c.variables-variables.ensures.list

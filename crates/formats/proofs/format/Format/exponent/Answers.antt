@@ -16,15 +16,15 @@ returns-then-variable-variables c =
 pub bits-requires : goal.bits-requires
 bits-requires c = omega (arith, ap total (take_rest c.variables-variables.result.now (c.args.variable + 1)), total-after c.variables-variables.result.now c.args.variable c.variables-variables.ensures.sound c.if-variable-variables.false)
 
-pub field-of-requires : goal.field-of-requires
-field-of-requires c = record {
+pub field_of-requires : goal.field_of-requires
+field_of-requires c = record {
   low = omega (arith, c.bits.ensures, ap total (take_rest c.variables-variables.result.now (c.args.variable + 1)), total-after c.variables-variables.result.now c.args.variable c.variables-variables.ensures.sound c.if-variable-variables.false);
   narrow = (width_at c.variables-variables.result.now c.args.variable c.variables-variables.ensures.sound.ok c.if-variable-variables.false).1;
 }
 
 pub returns : goal.returns
 returns c =
-    c.field-of.ensures
+    c.field_of.ensures
     ∙ ap (λ n. field n (at c.variables-variables.result.now c.args.variable).width c.args.key) (c.bits.ensures ∙ ap total (take_rest c.variables-variables.result.now (c.args.variable + 1)))
     ∙ sym (unpack-at c.variables-variables.result.now c.args.key c.args.variable c.if-variable-variables.false)
     ∙ ap (λ l. exponent c.args.variable (unpack l c.args.key)) c.variables-variables.ensures.list

@@ -5,5 +5,5 @@ use Rattle.formats.proofs.format.Format.pack.Goals as goal
 
 pub returns : goal.returns
 returns c =
-    let key = c.key-of.ensures ∙ ap (λ l. packed l c.args.exponents.now) c.variables.ensures.list in
+    let key = c.key_of.ensures ∙ ap (λ l. packed l c.args.exponents.now) c.variables.ensures.list in
     record { key = key; back = packed-back _ _ _ key }

@@ -8,8 +8,8 @@ use Rattle.formats.proofs.format.Format.unit.Goals as goal
 pub bits-requires : goal.bits-requires
 bits-requires c = omega (arith, ap total (take_rest c.variables-variables.result.now (c.args.variable + 1)), total-after c.variables-variables.result.now c.args.variable c.variables-variables.ensures.sound c.if-variable-variables.false)
 
-pub overflow-shl-result : goal.overflow-shl-result
-overflow-shl-result c = omega (arith, c.bits.ensures, ap total (take_rest c.variables-variables.result.now (c.args.variable + 1)), total-after c.variables-variables.result.now c.args.variable c.variables-variables.ensures.sound c.if-variable-variables.false)
+pub overflow_shl-result : goal.overflow_shl-result
+overflow_shl-result c = omega (arith, c.bits.ensures, ap total (take_rest c.variables-variables.result.now (c.args.variable + 1)), total-after c.variables-variables.result.now c.args.variable c.variables-variables.ensures.sound c.if-variable-variables.false)
 
 pub returns : goal.returns
 returns c =

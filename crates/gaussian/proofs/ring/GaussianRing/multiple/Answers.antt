@@ -15,8 +15,8 @@ returns c =
     let z = c.member-z.result in
     let small = few (goal.at.returns c).After-from-n in
     let below = c.member-z.ensures.below in
-    let real = kept-bits c.part-product.result c.part-product.ensures.below ∙ c.part-product.ensures.is ∙ same-product n z.real small below.real in
-    let imaginary = kept-bits c.part-product-2.result c.part-product-2.ensures.below ∙ c.part-product-2.ensures.is ∙ same-product n z.imaginary small below.imaginary in
+    let real = kept-bits c.part_product.result c.part_product.ensures.below ∙ c.part_product.ensures.is ∙ same-product n z.real small below.real in
+    let imaginary = kept-bits c.part_product-2.result c.part_product-2.ensures.below ∙ c.part_product-2.ensures.is ∙ same-product n z.imaginary small below.imaginary in
     c.value.ensures
     ∙ (λ i. valued (record { real = real i; imaginary = imaginary i }))
     ∙ (λ i. valued (scaled (c.from-n.ensures i) (c.member-z.ensures.means i)))

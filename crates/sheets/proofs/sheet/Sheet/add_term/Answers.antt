@@ -19,33 +19,33 @@ raised : (g : given.Over) (c : After-raise g) → Making g.K.Ring.kind 9 c.args.
 raised g c =
     let K = g.K.Ring.kind in
     let s = c.args.self.now in
-    let t = c.begin-term.new.self in
-    row-raised K s t c.raise.new.self c.args.right (omega arith) _ c.exponent-power.result _ c.raise.result (subst (Making K 9 s t _) (ap (made_in 9) c.in-ok-begin-term.was) c.begin-term.ensures) c.exponent-power.ensures c.raise.ensures
+    let t = c.begin_term.new.self in
+    row-raised K s t c.raise.new.self c.args.right (omega arith) _ c.exponent-power.result _ c.raise.result (subst (Making K 9 s t _) (ap (made_in 9) c.in_ok-begin_term.was) c.begin_term.ensures) c.exponent-power.ensures c.raise.ensures
 
-pub returns-in-err-begin-term : goal.returns-in-err-begin-term
-returns-in-err-begin-term g c =
+pub returns-in_err-begin_term : goal.returns-in_err-begin_term
+returns-in_err-begin_term g c =
     let K = g.K.Ring.kind in
-    let m = subst (Making K 9 c.args.self.now c.begin-term.new.self _) (ap (made_in 9) c.in-err-begin-term.was) c.begin-term.ensures in
+    let m = subst (Making K 9 c.args.self.now c.begin_term.new.self _) (ap (made_in 9) c.in_err-begin_term.was) c.begin_term.ensures in
     absurd (not_refused _ _ m.result)
 
-pub returns-in-err-raise : goal.returns-in-err-raise
-returns-in-err-raise g c =
+pub returns-in_err-raise : goal.returns-in_err-raise
+returns-in_err-raise g c =
     let K = g.K.Ring.kind in
     let s = c.args.self.now in
     let u = c.raise.new.self in
-    let m = subst (Making K 9 s u _) (ap (made_in 9) c.in-err-raise.was) (raised g (goal.at.returns-in-err-raise g c).After-raise) in
-    let p = err_from_is_err_and c.from-residual-in-err-raise.result c.from-residual-in-err-raise.ensures.1 in
-    subst (Making K 8 s u _) (sym (ap (made_in 8) (p.1 ∙ ap Err p.2))) (row-refused K s _ u c.in-err-raise.field-0.0 m)
+    let m = subst (Making K 9 s u _) (ap (made_in 9) c.in_err-raise.was) (raised g (goal.at.returns-in_err-raise g c).After-raise) in
+    let p = err_from_is_err_and c.from-residual-in_err-raise.result c.from-residual-in_err-raise.ensures.1 in
+    subst (Making K 8 s u _) (sym (ap (made_in 8) (p.1 ∙ ap Err p.2))) (row-refused K s _ u c.in_err-raise.field-0.0 m)
 
-pub returns-in-err-add : goal.returns-in-err-add
-returns-in-err-add g c =
+pub returns-in_err-add : goal.returns-in_err-add
+returns-in_err-add g c =
     let K = g.K.Ring.kind in
     let s = c.args.self.now in
     let t = c.raise.new.self in
     let u = with_areas t c.add.new.self in
-    let m = subst (Making K 9 s t _) (ap (made_in 9) c.in-ok-raise.was) (raised g (goal.at.returns-in-err-add g c).After-raise) in
-    let p = err_from_is_err_and c.from-residual-in-err-add.result c.from-residual-in-err-add.ensures.1 in
-    subst (Making K 8 s u _) (sym (ap (made_in 8) (p.1 ∙ ap Err p.2))) (row-over K s _ t u m c.add.result c.add.ensures.answer (kept-stored K t u 10 _ c.add.ensures.leaves refl c.add.ensures.tidy) c.in-err-add.field-0.0 c.in-err-add.was)
+    let m = subst (Making K 9 s t _) (ap (made_in 9) c.in_ok-raise.was) (raised g (goal.at.returns-in_err-add g c).After-raise) in
+    let p = err_from_is_err_and c.from-residual-in_err-add.result c.from-residual-in_err-add.ensures.1 in
+    subst (Making K 8 s u _) (sym (ap (made_in 8) (p.1 ∙ ap Err p.2))) (row-over K s _ t u m c.add.result c.add.ensures.answer (kept-stored K t u 10 _ c.add.ensures.leaves refl c.add.ensures.tidy) c.in_err-add.field-0.0 c.in_err-add.was)
 
 pub returns : goal.returns
 returns g c =
@@ -54,5 +54,5 @@ returns g c =
     let t = c.raise.new.self in
     let u = with_areas t c.add.new.self in
     let v = with_areas t c.copy.new.self in
-    let m = subst (Making K 9 s t _) (ap (made_in 9) c.in-ok-raise.was) (raised g (goal.at.returns g c).After-raise) in
-    row_summed K s _ t u m c.add.result c.add.ensures.answer c.add.ensures.leaves (kept-stored K t u 10 _ c.add.ensures.leaves refl c.add.ensures.tidy) c.in-ok-add.was v c.copy.ensures.leaves (kept-stored K u v 8 _ c.copy.ensures.leaves refl c.copy.ensures.tidy)
+    let m = subst (Making K 9 s t _) (ap (made_in 9) c.in_ok-raise.was) (raised g (goal.at.returns g c).After-raise) in
+    row_summed K s _ t u m c.add.result c.add.ensures.answer c.add.ensures.leaves (kept-stored K t u 10 _ c.add.ensures.leaves refl c.add.ensures.tidy) c.in_ok-add.was v c.copy.ensures.leaves (kept-stored K u v 8 _ c.copy.ensures.leaves refl c.copy.ensures.tidy)

@@ -10,15 +10,15 @@ use Rattle.sheets.proofs.Outcomes.{Ended, ends, written, tested, outcome}
 use Rattle.sheets.proofs.Terms.{constant_gives}
 use Rattle.sheets.proofs.sheet.Sheet.constant.Goals as goal
 
-pub returns-then-is-zero : goal.returns-then-is-zero
-returns-then-is-zero g c =
+pub returns-then-is_zero : goal.returns-then-is_zero
+returns-then-is_zero g c =
     let K = g.K.Ring.kind in
     let s = c.args.self.now in
     let r = c.args.res in
     let u = with_areas s c.clear.new.self in
     let figures = K.make c.args.first c.args.second in
-    let made : figures ≡ Ok c.in-ok-coefficient.coefficient = sym (λ i. K.make (to_z-of_z w64 c.args.first c.ranges.first i) (to_z-of_z w64 c.args.second c.ranges.second i)) ∙ sym c.from-figures.ensures ∙ c.in-ok-coefficient.was in
-    let same : constant_rows K (state s) figures ≡ Ok [] = ap (constant_rows K (state s)) made ∙ cond-true _ _ _ (sym c.is-zero.ensures ∙ c.if-is-zero.true) in
+    let made : figures ≡ Ok c.in_ok-coefficient.coefficient = sym (λ i. K.make (to_z-of_z w64 c.args.first c.ranges.first i) (to_z-of_z w64 c.args.second c.ranges.second i)) ∙ sym c.from_figures.ensures ∙ c.in_ok-coefficient.was in
+    let same : constant_rows K (state s) figures ≡ Ok [] = ap (constant_rows K (state s)) made ∙ cond-true _ _ _ (sym c.is_zero.ensures ∙ c.if-is_zero.true) in
     let e = subst (λ x. Ended K s u r x (Ok tt)) (sym same) (written K s u r [] (omega arith) c.clear.ensures.leaves refl c.clear.ensures.tidy) in
     let w = tested K s u r (constant_rows K (state s) figures) (Ok tt) _ (lt-ltb r 8 (omega arith)) e in
     record {
@@ -36,9 +36,9 @@ returns g c =
     let t = c.single-made.new.self in
     let u = c.finish.new.self in
     let figures = K.make c.args.first c.args.second in
-    let made : figures ≡ Ok c.in-ok-coefficient.coefficient = sym (λ i. K.make (to_z-of_z w64 c.args.first c.ranges.first i) (to_z-of_z w64 c.args.second c.ranges.second i)) ∙ sym c.from-figures.ensures ∙ c.in-ok-coefficient.was in
-    let one = limit (state s) (Ok (row 0 c.in-ok-coefficient.coefficient ∷ [])) in
-    let same : constant_rows K (state s) figures ≡ one = ap (constant_rows K (state s)) made ∙ cond-false _ _ _ (sym c.is-zero.ensures ∙ c.if-is-zero.false) in
+    let made : figures ≡ Ok c.in_ok-coefficient.coefficient = sym (λ i. K.make (to_z-of_z w64 c.args.first c.ranges.first i) (to_z-of_z w64 c.args.second c.ranges.second i)) ∙ sym c.from_figures.ensures ∙ c.in_ok-coefficient.was in
+    let one = limit (state s) (Ok (row 0 c.in_ok-coefficient.coefficient ∷ [])) in
+    let same : constant_rows K (state s) figures ≡ one = ap (constant_rows K (state s)) made ∙ cond-false _ _ _ (sym c.is_zero.ensures ∙ c.if-is_zero.false) in
     let e = subst (λ x. Ended K s u r x c.finish.result) (sym same) (ends K s 8 (omega arith) t u r one c.single-made.result c.finish.result c.single-made.ensures c.finish.ensures.answer c.finish.ensures.leaves c.finish.ensures.blank) in
     let w = tested K s u r (constant_rows K (state s) figures) c.finish.result _ (lt-ltb r 8 (omega arith)) e in
     record {

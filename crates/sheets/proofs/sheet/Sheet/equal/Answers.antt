@@ -13,8 +13,8 @@ returns g c =
     let s = c.args.self.now in
     let p = c.args.left in
     let q = c.args.right in
-    let is : c.same-rows.result ≡ same_rows K ((state s).places p) ((state s).places q) =
-    c.same-rows.ensures ∙ (λ i. same_rows K ((c.table.ensures ∙ sym (place-table s p (omega arith))) i) ((c.table-2.ensures ∙ sym (place-table s q (omega arith))) i)) in
+    let is : c.same_rows.result ≡ same_rows K ((state s).places p) ((state s).places q) =
+    c.same_rows.ensures ∙ (λ i. same_rows K ((c.table.ensures ∙ sym (place-table s p (omega arith))) i) ((c.table-2.ensures ∙ sym (place-table s q (omega arith))) i)) in
     record {
       answer = ap Ok is ∙ sym (cond-true _ _ _ (two_placed p q (omega arith) (omega arith)));
       algebra = λ f h hp hq. subst (λ t. Same K (state s) (f p) (f q) (Ok t)) (sym is) (compared K g.met.K.Ring.ring g.met.K.Ring.values (state s) (f p) (f q) ((state s).places p) ((state s).places q) (h p hp) (h q hq));

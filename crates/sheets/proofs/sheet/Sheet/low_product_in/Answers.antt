@@ -18,8 +18,8 @@ loop-i-init g c =
     let start = with_areas s c.clear.new.self in
     running_none g.K.Ring.kind 9 (near (state start).vars c.args.count c.args.most (table start c.args.left)) (table start c.args.right) start (ap (λ d. d.tables 10) c.clear.ensures.leaves ∙ table-there (contents s.areas) 10 [] (omega arith))
 
-pub offset-bounds-table-i : goal.offset-bounds-table-i
-offset-bounds-table-i g c = let e = c.table.ensures ∙ c.loop-i.invariant.kept.others c.args.right c.requires.right ∙ sym c.table-i-end.ensures in omega (arith, ap length e)
+pub offset_bounds-table-i : goal.offset_bounds-table-i
+offset_bounds-table-i g c = let e = c.table.ensures ∙ c.loop-i.invariant.kept.others c.args.right c.requires.right ∙ sym c.table-i-end.ensures in omega (arith, ap length e)
 
 pub bounds-table-i : goal.bounds-table-i
 bounds-table-i g c = let e = c.table.ensures ∙ c.loop-i.invariant.kept.others c.args.right c.requires.right ∙ sym c.table-i-end.ensures in omega (arith, ap length e)
@@ -37,18 +37,18 @@ taken g c =
     let k = c.loop-i.invariant.kept in
     let l = c.gather.ensures.kept in
     let rows : table mid 9 ≡ pick y = c.gather.ensures.rows ∙ (λ i. near (variables (k.format i)) c.args.count n (k.others c.args.left c.requires.left i) y) in
-    let most : c.greatest-of-greatest.result ≡ highest vs (replicate 8 0) (pick y) = c.greatest-of-greatest.ensures ∙ (λ i. highest (variables ((l.format ∙ k.format) i)) (replicate 8 0) ((c.table-in-loop-i.ensures ∙ rows) i)) in
-    turn_taken K 9 pick (table start c.args.right) start (omega arith) t mid c.turn.new.self c.loop-i.at c.loop-i.i 9 c.greatest-of-greatest.result y c.turn.result c.loop-i.invariant (kept_fewer K (but 9) (below 9) t mid (λ o h e. omega arith) l) (l.others c.loop-i.at (λ e. omega (arith, c.loop-i.invariant.low))) rows most c.turn.ensures.makes c.turn.ensures.area
+    let most : c.greatest_of-greatest.result ≡ highest vs (replicate 8 0) (pick y) = c.greatest_of-greatest.ensures ∙ (λ i. highest (variables ((l.format ∙ k.format) i)) (replicate 8 0) ((c.table-in-loop-i.ensures ∙ rows) i)) in
+    turn_taken K 9 pick (table start c.args.right) start (omega arith) t mid c.turn.new.self c.loop-i.at c.loop-i.i 9 c.greatest_of-greatest.result y c.turn.result c.loop-i.invariant (kept_fewer K (but 9) (below 9) t mid (λ o h e. omega arith) l) (l.others c.loop-i.at (λ e. omega (arith, c.loop-i.invariant.low))) rows most c.turn.ensures.makes c.turn.ensures.area
 
-pub returns-in-err-at : goal.returns-in-err-at
-returns-in-err-at g c =
+pub returns-in_err-at : goal.returns-in_err-at
+returns-in_err-at g c =
     let K = g.K.Ring.kind in
     let s = c.args.self.now in
     let start = with_areas s c.clear.new.self in
     let u = c.turn.new.self in
     let first = kept_fewer K (but 10) (below 9) s start (λ o h e. omega arith) (kept-stored K s start 10 [] c.clear.ensures.leaves refl c.clear.ensures.tidy) in
     let rows = c.table.ensures ∙ c.loop-i.invariant.kept.others c.args.right c.requires.right in
-    let refused = running-refused K 9 (near (state start).vars c.args.count c.args.most (table start c.args.left)) (table start c.args.right) start c.loop-i.self u c.loop-i.at c.loop-i.i c.loop-i.invariant (omega (arith, ap length c.table-i-end.ensures)) c.index-table-i.result (c.index-table-i.is ∙ ap (λ l. get_or l c.loop-i.i c.index-table-i.result) rows) c.turn.result (taken g (goal.at.returns-in-err-at g c).After-turn) c.in-err-at.field-0.0 c.in-err-at.was in
+    let refused = running-refused K 9 (near (state start).vars c.args.count c.args.most (table start c.args.left)) (table start c.args.right) start c.loop-i.self u c.loop-i.at c.loop-i.i c.loop-i.invariant (omega (arith, ap length c.table-i-end.ensures)) c.index-table-i.result (c.index-table-i.is ∙ ap (λ l. get_or l c.loop-i.i c.index-table-i.result) rows) c.turn.result (taken g (goal.at.returns-in_err-at g c).After-turn) c.in_err-at.field-0.0 c.in_err-at.was in
     let p = err_from_is_err_and c.from-residual.result c.from-residual.ensures.1 in
     subst (Making K 9 s u _) (sym (p.1 ∙ ap Err p.2)) (making_after K 9 s start u _ _ _ first (λ i. product_truncated K (state s).vars (first.room i) c.args.count c.args.most (first.others c.args.left c.requires.left i) (first.others c.args.right c.requires.right i)) refused)
 
@@ -57,7 +57,7 @@ loop-i-preserved g c =
     let K = g.K.Ring.kind in
     let start = with_areas c.args.self.now c.clear.new.self in
     let rows = c.table.ensures ∙ c.loop-i.invariant.kept.others c.args.right c.requires.right in
-    running_more K 9 (near (state start).vars c.args.count c.args.most (table start c.args.left)) (table start c.args.right) start c.loop-i.self c.turn.new.self c.loop-i.at c.loop-i.i c.loop-i.invariant (omega (arith, ap length c.table-i-end.ensures)) c.index-table-i.result (c.index-table-i.is ∙ ap (λ l. get_or l c.loop-i.i c.index-table-i.result) rows) c.turn.result (taken g (goal.at.loop-i-preserved g c).After-turn) c.in-ok-at.at c.in-ok-at.was
+    running_more K 9 (near (state start).vars c.args.count c.args.most (table start c.args.left)) (table start c.args.right) start c.loop-i.self c.turn.new.self c.loop-i.at c.loop-i.i c.loop-i.invariant (omega (arith, ap length c.table-i-end.ensures)) c.index-table-i.result (c.index-table-i.is ∙ ap (λ l. get_or l c.loop-i.i c.index-table-i.result) rows) c.turn.result (taken g (goal.at.loop-i-preserved g c).After-turn) c.in_ok-at.at c.in_ok-at.was
 
 pub returns : goal.returns
 returns g c =

@@ -5,11 +5,11 @@ use Rattle.sheets.proofs.Changing.{not_refused, table-room}
 use Rattle.sheets.proofs.Entering.{alone-fits, merged_sum, merged_rows, merged_state}
 use Rattle.sheets.proofs.sheet.Sheet.merge.Goals as goal
 
-pub returns-in-err-push : goal.returns-in-err-push
-returns-in-err-push g c =
+pub returns-in_err-push : goal.returns-in_err-push
+returns-in_err-push g c =
     let s = c.args.self.now in
     let fits = alone-fits g.K.Ring.kind (contents s.areas) (contents c.clear.new.self) c.args.row c.clear.ensures.leaves c.requires (table-room s.areas 8) in
-    absurd (not_refused _ _ (sym c.in-err-push.was ∙ c.push.ensures.answer ∙ ap answered fits))
+    absurd (not_refused _ _ (sym c.in_err-push.was ∙ c.push.ensures.answer ∙ ap answered fits))
 
 pub returns : goal.returns
 returns g c =

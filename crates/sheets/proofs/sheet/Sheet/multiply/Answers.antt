@@ -13,12 +13,12 @@ returns g c =
     let r = c.args.res in
     let p = c.args.left in
     let q = c.args.right in
-    let t = c.product-in-made.new.self in
+    let t = c.product_in-made.new.self in
     let u = c.finish.new.self in
     let a = product K (state s).vars (state s).room ((state s).places p) ((state s).places q) in
     let same : product K (state s).vars (state s).room (table s p) (table s q) ≡ a =
     (λ i. product K (state s).vars (state s).room (sym (place-table s p (omega arith)) i) (sym (place-table s q (omega arith)) i)) in
-    let e = ends K s 10 (omega arith) t u r a c.product-in-made.result c.finish.result (subst (λ x. Making K 10 s t x c.product-in-made.result) same c.product-in-made.ensures) c.finish.ensures.answer c.finish.ensures.leaves c.finish.ensures.blank in
+    let e = ends K s 10 (omega arith) t u r a c.product_in-made.result c.finish.result (subst (λ x. Making K 10 s t x c.product_in-made.result) same c.product_in-made.ensures) c.finish.ensures.answer c.finish.ensures.leaves c.finish.ensures.blank in
     let w = tested K s u r a c.finish.result _ (three_placed r p q (omega arith) (omega arith) (omega arith)) e in
     record {
       answer = w.answers;

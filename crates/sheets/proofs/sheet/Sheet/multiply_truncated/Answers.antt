@@ -17,12 +17,12 @@ returns g c =
     let q = c.args.right in
     let k = c.args.count in
     let n = c.args.most in
-    let t = c.low-product-in-made.new.self in
+    let t = c.low_product_in-made.new.self in
     let u = c.finish.new.self in
     let a = product_truncated K (state s).vars (state s).room k n ((state s).places p) ((state s).places q) in
     let same : product_truncated K (state s).vars (state s).room k n (table s p) (table s q) ≡ a =
     (λ i. product_truncated K (state s).vars (state s).room k n (sym (place-table s p (omega arith)) i) (sym (place-table s q (omega arith)) i)) in
-    let e = ends K s 9 (omega arith) t u r a c.low-product-in-made.result c.finish.result (subst (λ x. Making K 9 s t x c.low-product-in-made.result) same c.low-product-in-made.ensures) c.finish.ensures.answer c.finish.ensures.leaves c.finish.ensures.blank in
+    let e = ends K s 9 (omega arith) t u r a c.low_product_in-made.result c.finish.result (subst (λ x. Making K 9 s t x c.low_product_in-made.result) same c.low_product_in-made.ensures) c.finish.ensures.answer c.finish.ensures.leaves c.finish.ensures.blank in
     let low = passing K s u r a c.finish.result Prefix _ (le-leb k (length (state s).vars) (omega (arith, c.count.ensures))) e in
     let w = tested K s u r _ c.finish.result _ (three_placed r p q (omega arith) (omega arith) (omega arith)) low in
     record {

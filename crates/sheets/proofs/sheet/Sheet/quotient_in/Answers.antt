@@ -46,30 +46,30 @@ taken g c =
     let mid = with_areas t c.push.new.self in
     let k = (begins g (goal.at.After-turn g c).After-copy).kept in
     let divisor : table start q ≡ y ∷ ds = first_drop (table start q) y (ap row_leading (k.others q c.requires.right) ∙ leads g (goal.at.After-turn g c).After-copy) in
-    let most : c.greatest-of-greatest.result ≡ highest (state start).vars (replicate 8 0) (y ∷ ds) = c.greatest-of-greatest.ensures ∙ ap (highest (state start).vars (replicate 8 0)) (c.table-2.ensures ∙ sym (k.others q c.requires.right) ∙ divisor) in
-    let first = sym (c.first-row-in-loop-first.ensures ∙ ap row_leading c.table-in-loop-first.ensures) ∙ c.in-Some-first-row.is in
-    division_taken K g.K.Domain.quotient y ds start t c.loop-first.at c.loop-first.invariant c.in-Some-first-row.first first c.in-ok-row.row (sym c.quotient-row.ensures ∙ c.in-ok-row.was) mid c.push.result c.push.ensures.answer c.push.ensures.leaves refl c.push.ensures.tidy c.in-ok-push.was q c.requires.right divisor c.greatest-of-greatest.result most c.opposite.result c.opposite.ensures c.turn.new.self c.turn.result c.turn.ensures.makes c.turn.ensures.area
+    let most : c.greatest_of-greatest.result ≡ highest (state start).vars (replicate 8 0) (y ∷ ds) = c.greatest_of-greatest.ensures ∙ ap (highest (state start).vars (replicate 8 0)) (c.table-2.ensures ∙ sym (k.others q c.requires.right) ∙ divisor) in
+    let first = sym (c.first_row-in-loop-first.ensures ∙ ap row_leading c.table-in-loop-first.ensures) ∙ c.in-Some-first_row.is in
+    division_taken K g.K.Domain.quotient y ds start t c.loop-first.at c.loop-first.invariant c.in-Some-first_row.first first c.in_ok-row.row (sym c.quotient_row.ensures ∙ c.in_ok-row.was) mid c.push.result c.push.ensures.answer c.push.ensures.leaves refl c.push.ensures.tidy c.in_ok-push.was q c.requires.right divisor c.greatest_of-greatest.result most c.opposite.result c.opposite.ensures c.turn.new.self c.turn.result c.turn.ensures.makes c.turn.ensures.area
 
 pub loop-first-init : goal.loop-first-init
 loop-first-init g c =
     let start = with_areas c.args.self.now c.copy.new.self in
     division_none g.K.Ring.kind g.K.Domain.quotient c.in-Some.by (drop 1 (table start c.args.right)) start (begins g c).none
 
-pub returns-in-err-row : goal.returns-in-err-row
-returns-in-err-row g c =
+pub returns-in_err-row : goal.returns-in_err-row
+returns-in_err-row g c =
     let K = g.K.Ring.kind in
     let over = g.K.Domain.quotient in
     let s = c.args.self.now in
     let start = with_areas s c.copy.new.self in
     let q = c.args.right in
     let t = c.loop-first.self in
-    let first = sym (c.first-row-in-loop-first.ensures ∙ ap row_leading c.table-in-loop-first.ensures) ∙ c.in-Some-first-row.is in
-    let refused = division_row K over c.in-Some.by (drop 1 (table start q)) start t c.loop-first.at c.loop-first.invariant c.in-Some-first-row.first first c.in-err-row.field-0.0 (sym c.quotient-row.ensures ∙ c.in-err-row.was) in
+    let first = sym (c.first_row-in-loop-first.ensures ∙ ap row_leading c.table-in-loop-first.ensures) ∙ c.in-Some-first_row.is in
+    let refused = division_row K over c.in-Some.by (drop 1 (table start q)) start t c.loop-first.at c.loop-first.invariant c.in-Some-first_row.first first c.in_err-row.field-0.0 (sym c.quotient_row.ensures ∙ c.in_err-row.was) in
     let p = err_from_is_err_and c.from-residual.result c.from-residual.ensures.1 in
-    subst (Making K 8 s t (quotient K over (state s).vars (state s).room (table s c.args.left) (table s q))) (sym (p.1 ∙ ap Err p.2)) (since g (goal.at.returns-in-err-row g c).After-copy t _ refused)
+    subst (Making K 8 s t (quotient K over (state s).vars (state s).room (table s c.args.left) (table s q))) (sym (p.1 ∙ ap Err p.2)) (since g (goal.at.returns-in_err-row g c).After-copy t _ refused)
 
-pub returns-in-err-push : goal.returns-in-err-push
-returns-in-err-push g c =
+pub returns-in_err-push : goal.returns-in_err-push
+returns-in_err-push g c =
     let K = g.K.Ring.kind in
     let over = g.K.Domain.quotient in
     let s = c.args.self.now in
@@ -77,25 +77,25 @@ returns-in-err-push g c =
     let q = c.args.right in
     let t = c.loop-first.self in
     let mid = with_areas t c.push.new.self in
-    let first = sym (c.first-row-in-loop-first.ensures ∙ ap row_leading c.table-in-loop-first.ensures) ∙ c.in-Some-first-row.is in
-    let refused = division_full K over c.in-Some.by (drop 1 (table start q)) start t c.loop-first.at c.loop-first.invariant c.in-Some-first-row.first first c.in-ok-row.row (sym c.quotient-row.ensures ∙ c.in-ok-row.was) mid c.push.result c.push.ensures.answer c.push.ensures.leaves refl c.push.ensures.tidy c.in-err-push.field-0.0 c.in-err-push.was in
-    let p = err_from_is_err_and c.from-residual-in-err-push.result c.from-residual-in-err-push.ensures.1 in
-    subst (Making K 8 s mid (quotient K over (state s).vars (state s).room (table s c.args.left) (table s q))) (sym (p.1 ∙ ap Err p.2)) (since g (goal.at.returns-in-err-push g c).After-copy mid _ refused)
+    let first = sym (c.first_row-in-loop-first.ensures ∙ ap row_leading c.table-in-loop-first.ensures) ∙ c.in-Some-first_row.is in
+    let refused = division_full K over c.in-Some.by (drop 1 (table start q)) start t c.loop-first.at c.loop-first.invariant c.in-Some-first_row.first first c.in_ok-row.row (sym c.quotient_row.ensures ∙ c.in_ok-row.was) mid c.push.result c.push.ensures.answer c.push.ensures.leaves refl c.push.ensures.tidy c.in_err-push.field-0.0 c.in_err-push.was in
+    let p = err_from_is_err_and c.from-residual-in_err-push.result c.from-residual-in_err-push.ensures.1 in
+    subst (Making K 8 s mid (quotient K over (state s).vars (state s).room (table s c.args.left) (table s q))) (sym (p.1 ∙ ap Err p.2)) (since g (goal.at.returns-in_err-push g c).After-copy mid _ refused)
 
 pub turn-requires : goal.turn-requires
 turn-requires g c = record { low = c.loop-first.invariant.low; high = c.loop-first.invariant.high; factors = omega (arith, c.requires.right) }
 
-pub returns-in-err-at : goal.returns-in-err-at
-returns-in-err-at g c =
+pub returns-in_err-at : goal.returns-in_err-at
+returns-in_err-at g c =
     let K = g.K.Ring.kind in
     let over = g.K.Domain.quotient in
     let s = c.args.self.now in
     let start = with_areas s c.copy.new.self in
     let q = c.args.right in
     let u = c.turn.new.self in
-    let refused = division_refused K over c.in-Some.by (drop 1 (table start q)) start c.loop-first.self u c.loop-first.at c.turn.result (taken g (goal.at.returns-in-err-at g c).After-turn) c.in-err-at.field-0.0 c.in-err-at.was in
-    let p = err_from_is_err_and c.from-residual-in-err-at.result c.from-residual-in-err-at.ensures.1 in
-    subst (Making K 8 s u (quotient K over (state s).vars (state s).room (table s c.args.left) (table s q))) (sym (p.1 ∙ ap Err p.2)) (since g (goal.at.returns-in-err-at g c).After-copy u _ refused)
+    let refused = division_refused K over c.in-Some.by (drop 1 (table start q)) start c.loop-first.self u c.loop-first.at c.turn.result (taken g (goal.at.returns-in_err-at g c).After-turn) c.in_err-at.field-0.0 c.in_err-at.was in
+    let p = err_from_is_err_and c.from-residual-in_err-at.result c.from-residual-in_err-at.ensures.1 in
+    subst (Making K 8 s u (quotient K over (state s).vars (state s).room (table s c.args.left) (table s q))) (sym (p.1 ∙ ap Err p.2)) (since g (goal.at.returns-in_err-at g c).After-copy u _ refused)
 
 pub loop-first-smaller : goal.loop-first-smaller
 loop-first-smaller g c = (taken g (goal.at.loop-first-smaller g c).After-turn).falls
@@ -103,10 +103,10 @@ loop-first-smaller g c = (taken g (goal.at.loop-first-smaller g c).After-turn).f
 pub loop-first-preserved : goal.loop-first-preserved
 loop-first-preserved g c =
     let start = with_areas c.args.self.now c.copy.new.self in
-    division_more g.K.Ring.kind g.K.Domain.quotient c.in-Some.by (drop 1 (table start c.args.right)) start c.loop-first.self c.turn.new.self c.loop-first.at c.turn.result (taken g (goal.at.loop-first-preserved g c).After-turn) c.loop-first.invariant c.in-ok-at.at c.in-ok-at.was
+    division_more g.K.Ring.kind g.K.Domain.quotient c.in-Some.by (drop 1 (table start c.args.right)) start c.loop-first.self c.turn.new.self c.loop-first.at c.turn.result (taken g (goal.at.loop-first-preserved g c).After-turn) c.loop-first.invariant c.in_ok-at.at c.in_ok-at.was
 
 pub returns : goal.returns
 returns g c =
     let start = with_areas c.args.self.now c.copy.new.self in
-    let none = sym (c.first-row-in-loop-first.ensures ∙ ap row_leading c.table-in-loop-first.ensures) ∙ c.in-default-first-row.is in
+    let none = sym (c.first_row-in-loop-first.ensures ∙ ap row_leading c.table-in-loop-first.ensures) ∙ c.in_default-first_row.is in
     since g (goal.at.returns g c).After-copy c.loop-first.self (Ok 8) (division_all g.K.Ring.kind g.K.Domain.quotient c.in-Some.by (drop 1 (table start c.args.right)) start c.loop-first.self c.loop-first.at c.loop-first.invariant none)

@@ -10,12 +10,12 @@ use Rattle.sheets.proofs.sheet.Sheet.raise.Goals as goal
 pub loop-i-init : goal.loop-i-init
 loop-i-init g c = let s = c.args.self.now in raising_none g.K.Ring.kind (table s c.args.right) (table s 9) s refl
 
-pub returns-in-err-at : goal.returns-in-err-at
-returns-in-err-at g c =
+pub returns-in_err-at : goal.returns-in_err-at
+returns-in_err-at g c =
     let K = g.K.Ring.kind in
     let s = c.args.self.now in
-    let u = c.product-in.new.self in
-    let refused = raising_refused K (table s c.args.right) (table s 9) s c.args.right c.requires refl c.loop-i.self u c.loop-i.-i c.loop-i.invariant c.product-in.result c.product-in.ensures c.in-err-at.field-0.0 c.in-err-at.was c.args.power c.loop-i-test.true in
+    let u = c.product_in.new.self in
+    let refused = raising_refused K (table s c.args.right) (table s 9) s c.args.right c.requires refl c.loop-i.self u c.loop-i.-i c.loop-i.invariant c.product_in.result c.product_in.ensures c.in_err-at.field-0.0 c.in_err-at.was c.args.power c.loop-i-test.true in
     let p = err_from_is_err_and c.from-residual.result c.from-residual.ensures.1 in
     subst (Making K 9 s u _) (sym (ap (made_in 9) (p.1 ∙ ap Err p.2))) refused
 
@@ -23,9 +23,9 @@ pub loop-i-preserved : goal.loop-i-preserved
 loop-i-preserved g c =
     let K = g.K.Ring.kind in
     let s = c.args.self.now in
-    let u = c.product-in.new.self in
+    let u = c.product_in.new.self in
     let v = with_areas u c.copy.new.self in
-    raising_more K (table s c.args.right) (table s 9) s c.args.right c.requires refl c.loop-i.self u c.loop-i.-i c.loop-i.invariant c.product-in.result c.product-in.ensures c.in-ok-at.at c.in-ok-at.was v c.copy.ensures.leaves (kept-stored K u v 9 _ c.copy.ensures.leaves refl c.copy.ensures.tidy)
+    raising_more K (table s c.args.right) (table s 9) s c.args.right c.requires refl c.loop-i.self u c.loop-i.-i c.loop-i.invariant c.product_in.result c.product_in.ensures c.in_ok-at.at c.in_ok-at.was v c.copy.ensures.leaves (kept-stored K u v 9 _ c.copy.ensures.leaves refl c.copy.ensures.tidy)
 
 pub returns : goal.returns
 returns g c = let s = c.args.self.now in raising_all g.K.Ring.kind (table s c.args.right) (table s 9) s c.loop-i.self c.loop-i.-i c.args.power c.loop-i.invariant (omega arith)

@@ -16,12 +16,12 @@ returns g c =
     let p = c.args.left in
     let q = c.args.right in
     let v = c.args.variable in
-    let t = c.substitution-in-made.new.self in
+    let t = c.substitution_in-made.new.self in
     let u = c.finish.new.self in
     let a = substituted K (state s).vars (state s).room v ((state s).places q) [] ((state s).places p) in
     let same : substituted K (state s).vars (state s).room v (table s q) [] (table s p) ≡ a =
     (λ i. substituted K (state s).vars (state s).room v (sym (place-table s q (omega arith)) i) [] (sym (place-table s p (omega arith)) i)) in
-    let e = ends K s 8 (omega arith) t u r a c.substitution-in-made.result c.finish.result (subst (λ x. Making K 8 s t x c.substitution-in-made.result) same c.substitution-in-made.ensures) c.finish.ensures.answer c.finish.ensures.leaves c.finish.ensures.blank in
+    let e = ends K s 8 (omega arith) t u r a c.substitution_in-made.result c.finish.result (subst (λ x. Making K 8 s t x c.substitution_in-made.result) same c.substitution_in-made.ensures) c.finish.ensures.answer c.finish.ensures.leaves c.finish.ensures.blank in
     let there = passing K s u r a c.finish.result NotInFormat _ (lt-ltb v (length (state s).vars) (omega (arith, c.count.ensures))) e in
     let w = tested K s u r _ c.finish.result _ (three_placed r p q (omega arith) (omega arith) (omega arith)) there in
     record {

@@ -18,28 +18,28 @@ loop-i-init g c =
     let start = with_areas s c.clear.new.self in
     summing_none g.K.Ring.kind c.args.variable (table start c.args.right) (table start c.args.left) start (ap (λ d. d.tables 8) c.clear.ensures.leaves ∙ table-there (contents s.areas) 8 [] (omega arith))
 
-pub offset-bounds-table-i : goal.offset-bounds-table-i
-offset-bounds-table-i g c = let e = c.table.ensures ∙ c.loop-i.invariant.kept.others c.args.left c.requires.left ∙ sym c.table-i-end.ensures in omega (arith, ap length e)
+pub offset_bounds-table-i : goal.offset_bounds-table-i
+offset_bounds-table-i g c = let e = c.table.ensures ∙ c.loop-i.invariant.kept.others c.args.left c.requires.left ∙ sym c.table-i-end.ensures in omega (arith, ap length e)
 
 pub bounds-table-i : goal.bounds-table-i
 bounds-table-i g c = let e = c.table.ensures ∙ c.loop-i.invariant.kept.others c.args.left c.requires.left ∙ sym c.table-i-end.ensures in omega (arith, ap length e)
 
-pub add-term-requires : goal.add-term-requires
-add-term-requires g c = record {
+pub add_term-requires : goal.add_term-requires
+add_term-requires g c = record {
   right = c.requires.right;
   variable = subst (λ f. c.args.variable < length (variables f)) (sym c.loop-i.invariant.kept.format) c.requires.variable;
   room = omega (arith, ap length c.table-i-end.ensures, table-room c.clear.new.self c.args.left, c.loop-i.invariant.kept.room);
 }
 
-pub returns-in-err-add-term : goal.returns-in-err-add-term
-returns-in-err-add-term g c =
+pub returns-in_err-add_term : goal.returns-in_err-add_term
+returns-in_err-add_term g c =
     let K = g.K.Ring.kind in
     let s = c.args.self.now in
     let start = with_areas s c.clear.new.self in
-    let u = c.add-term.new.self in
+    let u = c.add_term.new.self in
     let first = kept_fewer K (but 8) (below 8) s start (λ o h e. omega arith) (kept-stored K s start 8 [] c.clear.ensures.leaves refl c.clear.ensures.tidy) in
     let rows = c.table.ensures ∙ c.loop-i.invariant.kept.others c.args.left c.requires.left in
-    let refused = summing_refused K c.args.variable (table start c.args.right) (table start c.args.left) start c.args.right c.requires.right refl c.loop-i.self u c.loop-i.i c.loop-i.invariant (omega (arith, ap length c.table-i-end.ensures)) c.index-table-i.result (c.index-table-i.is ∙ ap (λ l. get_or l c.loop-i.i c.index-table-i.result) rows) c.add-term.result c.add-term.ensures c.in-err-add-term.field-0.0 c.in-err-add-term.was in
+    let refused = summing_refused K c.args.variable (table start c.args.right) (table start c.args.left) start c.args.right c.requires.right refl c.loop-i.self u c.loop-i.i c.loop-i.invariant (omega (arith, ap length c.table-i-end.ensures)) c.index-table-i.result (c.index-table-i.is ∙ ap (λ l. get_or l c.loop-i.i c.index-table-i.result) rows) c.add_term.result c.add_term.ensures c.in_err-add_term.field-0.0 c.in_err-add_term.was in
     let p = err_from_is_err_and c.from-residual.result c.from-residual.ensures.1 in
     subst (Making K 8 s u _) (sym (p.1 ∙ ap Err p.2)) (making_after K 8 s start u _ _ _ first (λ i. substituted K (state s).vars (first.room i) c.args.variable (first.others c.args.right c.requires.right i) [] (first.others c.args.left c.requires.left i)) refused)
 
@@ -48,7 +48,7 @@ loop-i-preserved g c =
     let K = g.K.Ring.kind in
     let start = with_areas c.args.self.now c.clear.new.self in
     let rows = c.table.ensures ∙ c.loop-i.invariant.kept.others c.args.left c.requires.left in
-    summing_more K c.args.variable (table start c.args.right) (table start c.args.left) start c.args.right c.requires.right refl c.loop-i.self c.add-term.new.self c.loop-i.i c.loop-i.invariant (omega (arith, ap length c.table-i-end.ensures)) c.index-table-i.result (c.index-table-i.is ∙ ap (λ l. get_or l c.loop-i.i c.index-table-i.result) rows) c.add-term.result c.add-term.ensures c.in-ok-add-term.was
+    summing_more K c.args.variable (table start c.args.right) (table start c.args.left) start c.args.right c.requires.right refl c.loop-i.self c.add_term.new.self c.loop-i.i c.loop-i.invariant (omega (arith, ap length c.table-i-end.ensures)) c.index-table-i.result (c.index-table-i.is ∙ ap (λ l. get_or l c.loop-i.i c.index-table-i.result) rows) c.add_term.result c.add_term.ensures c.in_ok-add_term.was
 
 pub returns : goal.returns
 returns g c =

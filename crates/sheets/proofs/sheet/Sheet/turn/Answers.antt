@@ -23,12 +23,12 @@ returns g c =
     let s = c.args.self.now in
     let at = c.args.at in
     let to = 21 - at in
-    let t = with_areas s c.add-scaled.new.self in
+    let t = with_areas s c.add_scaled.new.self in
     let a = scaling K (contents s.areas) to at c.args.factors c.args.row in
     let same : a ≡ turned K (state s).vars (state s).room c.args.greatest.now (table s at) (table s c.args.factors) c.args.row =
     cond-true _ _ _ (apart_areas to at c.args.factors (omega arith) (omega arith) (omega arith) (λ x. omega arith) (λ x. omega arith)) ∙ sym (cond-true _ _ _ (sym c.allows.ensures ∙ c.if-not-allows.false)) in
-    let m = passed K 10 to s t a c.add-scaled.result c.made-in.result (omega arith) (omega arith) c.add-scaled.ensures.leaves refl c.add-scaled.ensures.tidy c.add-scaled.ensures.answer c.made-in.ensures in
+    let m = passed K 10 to s t a c.add_scaled.result c.made_in.result (omega arith) (omega arith) c.add_scaled.ensures.leaves refl c.add_scaled.ensures.tidy c.add_scaled.ensures.answer c.made_in.ensures in
     record {
-      makes = subst (λ x. Making K 10 s t x c.made-in.result) same m;
-      area = c.made-in.ensures ∙ ap (made_in to) (c.add-scaled.ensures.answer ∙ ap answered same);
+      makes = subst (λ x. Making K 10 s t x c.made_in.result) same m;
+      area = c.made_in.ensures ∙ ap (made_in to) (c.add_scaled.ensures.answer ∙ ap answered same);
     }

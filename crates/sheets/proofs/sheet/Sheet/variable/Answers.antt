@@ -18,8 +18,8 @@ returns g c =
     let t = c.single-made.new.self in
     let u = c.finish.new.self in
     let a = variable_rows K (state s) (unit (state s).vars v) in
-    let one = limit (state s) (Ok (row c.in-ok-key.key c.one.result ∷ [])) in
-    let same : a ≡ one = ap (variable_rows K (state s)) (sym c.unit.ensures ∙ c.in-ok-key.was) ∙ ap (λ x. limit (state s) (Ok (row c.in-ok-key.key x ∷ []))) (sym c.one.ensures) in
+    let one = limit (state s) (Ok (row c.in_ok-key.key c.one.result ∷ [])) in
+    let same : a ≡ one = ap (variable_rows K (state s)) (sym c.unit.ensures ∙ c.in_ok-key.was) ∙ ap (λ x. limit (state s) (Ok (row c.in_ok-key.key x ∷ []))) (sym c.one.ensures) in
     let e = subst (λ x. Ended K s u r x c.finish.result) (sym same) (ends K s 8 (omega arith) t u r one c.single-made.result c.finish.result c.single-made.ensures c.finish.ensures.answer c.finish.ensures.leaves c.finish.ensures.blank) in
     let w = tested K s u r a c.finish.result _ (lt-ltb r 8 (omega arith)) e in
     record {

@@ -10,7 +10,7 @@ returns g c =
     let n = length c.args.rows.now in
     let b = blank g.K.Ring.kind in
     λ i. record {
-      rows = (c.blank-rows.ensures ∙ put_all c.args.rows.now (replicate n b) (length-replicate n b)) i;
+      rows = (c.blank_rows.ensures ∙ put_all c.args.rows.now (replicate n b) (length-replicate n b)) i;
       counts = replicate 8 0;
       vars = variables c.args.format;
     }
