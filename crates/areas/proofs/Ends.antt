@@ -10,7 +10,7 @@
 --     end_ok, end_err      a merge that was accepted, and one that was refused
 use Rattle.std.proofs.Common.{◌≡◌, ℕ, ◌+◌, ◌-◌, ◌*◌, ◌<◌, ◌≤◌, min, true, not, ◌&&◌, eqb, ltb, List, [], ◌∷◌, ◌++◌, length, get_or, take, drop, set, replicate, Ok, Err, Result, sym, refl, ap, ◌∙◌, subst, subst₂, arith}
 use Rattle.std.proofs.lemmas.List.{length-replicate, length_push, append-nil, take-append-drop, drop-drop}
-use Rattle.std.proofs.lemmas.Bool.{and_parts, ltb-true, lt-ltb, le-ltb, cond-true, cond-false, eqb-false, not_true}
+use Rattle.std.proofs.lemmas.Bool.{and_parts, ltb-true, lt-ltb, le-ltb, cond-true, cond-false, eqb-false, not-true}
 use Rattle.refusals.specs.declared.Refusal.{Refusal}
 use Rattle.refusals.specs.declared.Refusal.TheVariants.{Rows}
 use Rattle.rings.specs.Kinds.{Kind}
@@ -36,7 +36,7 @@ apart_parts t a b h =
     let q = and_parts (ltb t 12) (ltb a 12 && ltb b 12) p.0 in
     let r = and_parts (ltb a 12) (ltb b 12) q.1 in
     let s = and_parts (not (eqb t a)) (not (eqb t b)) p.1 in
-    (ltb-true t 12 q.0, ltb-true a 12 r.0, ltb-true b 12 r.1, eqb-false t a (not_true (eqb t a) s.0), eqb-false t b (not_true (eqb t b) s.1))
+    (ltb-true t 12 q.0, ltb-true a 12 r.0, ltb-true b 12 r.1, eqb-false t a (not-true (eqb t a) s.0), eqb-false t b (not-true (eqb t b) s.1))
 
 -- a part written where it is
 put-part : {X : Type 0} (xs : List X) (at n : ℕ) → at + n ≤ length xs → put xs at (part at n xs) ≡ xs

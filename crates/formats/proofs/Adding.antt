@@ -1,7 +1,7 @@
 -- One variable more. Assumes nothing.
 use Rattle.std.proofs.Common.{◌≡◌, ℕ, ◌+◌, ◌<◌, ◌≤◌, Bool, true, false, cond, not, ◌&&◌, ◌||◌, eqb, ltb, leb, List, [], ◌∷◌, ◌++◌, length, take, set, Some, None, Option, sym, refl, ap, ◌∙◌, arith}
 use Rattle.std.proofs.lemmas.List.{length-take-le, take_more_set}
-use Rattle.std.proofs.lemmas.Bool.{eqb-false, ne_eqb, leb-false, ltb-false, not-false, not_true, or_parts, or_from, and_parts, and_from, not_from_false}
+use Rattle.std.proofs.lemmas.Bool.{eqb-false, ne_eqb, leb-false, ltb-false, not-false, not-true, or_parts, or_from, and_parts, and_from, not_from_false}
 use Rattle.refusals.specs.declared.Refusal.{Refusal}
 use Rattle.refusals.specs.declared.Refusal.TheVariants.{Letter, Width, TooWide}
 use Rattle.formats.specs.Variables.{total, used, capital, wide, lawful, variable, refusal}
@@ -52,7 +52,7 @@ lawful-push (v ∷ vs) x w l c d f =
     let apart = ne_eqb x v.letter (λ e. eqb-false v.letter x g.0 (sym e)) in
     and_from (capital v.letter && wide v.width) _ p.0
     (and_from (not (used v.letter (vs ++ variable x w ∷ []))) (lawful (vs ++ variable x w ∷ []))
-    (not_from_false _ (used-push v.letter vs (variable x w) (not_true (used v.letter vs) q.0) apart))
+    (not_from_false _ (used-push v.letter vs (variable x w) (not-true (used v.letter vs) q.0) apart))
     (lawful-push vs x w q.1 c d g.1))
 
 -- the entries of a draft with one more

@@ -1,7 +1,7 @@
 -- The integers keep the laws of a kind, and their division answers as a domain's does. Assumes nothing.
 use Rattle.std.specs.Prelude.{◌≡◌, ℕ, zero, suc, ◌<◌, ◌≤◌, Bool, true, false, cond, ◌&&◌, ◌⊎◌, ℤ, pos, negsuc, ◌*ℤ◌, neg_ℤ, is_ok, Ok, Err, Result, FitsSigned, ◌≢◌, int_div, int_le, nat_le, unsigned_abs, refl}
 use Rattle.std.proofs.Common.{sym, ap, subst, ◌∙◌, inl, inr, ⊎_elim, le_trans, mul-le-mul, arith, of_z, to_z}
-use Rattle.std.proofs.Math.Bool.{and-true, and_false}
+use Rattle.std.proofs.Math.Bool.{and-true, and-false}
 use Rattle.std.specs.Int.Signed.{mag, mag_rem, le_z_yes, rem_z}
 use Rattle.std.specs.Int.{w64}
 use Rattle.std.proofs.lemmas.Bool.{leb-true, le-leb, cond-true, cond-false, cond_both, cases_Bool, true≢false}
@@ -86,7 +86,7 @@ figure_laws = record {
   where
     join : (s : Bool) (a : ℤ) → is_ok (cond s (valued a) (Err Unfit)) ≡ ((int_le (negsuc 134_217_726) a && int_le a (pos 134_217_727)) && s)
     join true a = valued_within a ∙ sym (and-true (int_le (negsuc 134_217_726) a && int_le a (pos 134_217_727)))
-    join false a = sym (and_false (int_le (negsuc 134_217_726) a && int_le a (pos 134_217_727)))
+    join false a = sym (and-false (int_le (negsuc 134_217_726) a && int_le a (pos 134_217_727)))
 
 -- ---- division
 pub division_law : (a b : Integer) → Division integers a b (divided a b)
