@@ -2,14 +2,14 @@
 --     sum-adds          an accepted sum adds
 --     sum_under         its keys are below what those of both tables are below
 --     sum_overflows     a refused one has a coefficient that does not fit
-use Rattle.std.proofs.Common.{◌≡◌, ℕ, ◌<◌, ◌≤◌, Bool, true, false, cond, eqb, ◌⊎◌, List, [], ◌∷◌, Ok, Err, Result, sym, refl, ap, ◌∙◌, subst, inl, inr, ⊎_elim, lt_trans, arith}
-use Rattle.std.proofs.lemmas.Bool.{eq-eqb, ne_eqb, eqb-true, cond-true, cond-false, cases_Bool, cases_order, true≢false}
+use Rattle.std.proofs.Common.{◌≡◌, ℕ, ◌<◌, Bool, true, false, cond, eqb, List, [], ◌∷◌, Ok, Err, Result, sym, refl, ap, ◌∙◌, subst, ⊎_elim, lt_trans, arith}
+use Rattle.std.proofs.lemmas.Bool.{eq-eqb, ne_eqb, cond-true, cond-false, cases_Bool, cases_order, true≢false}
 use Rattle.refusals.specs.declared.Refusal.{Refusal}
 use Rattle.refusals.specs.declared.Refusal.TheVariants.{Unfit}
 use Rattle.rings.specs.Members.{RingLaws}
-use Rattle.rings.specs.Kinds.{Kind, Fits, IsValue, ValueLaws}
+use Rattle.rings.specs.Kinds.{Kind, Fits, ValueLaws}
 use Rattle.rows.specs.declared.Row.{Row}
-use Rattle.rows.specs.Tables.{row, sum, into, both, consed}
+use Rattle.rows.specs.Tables.{row, sum, both, consed}
 use Rattle.rows.specs.Canonical.{coefficient, Under, Canonical, Adds, Overflows}
 use Rattle.rows.proofs.Sums.{sum_first, sum-second, sum_both}
 

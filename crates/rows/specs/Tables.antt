@@ -6,7 +6,7 @@
 --     sum K xs ys        the sum of two tables: rows by falling keys, those of equal keys added, a refusal if a coefficient does not fit
 --     limited c r        the rows of r if they are at most c, else the refusal for too many
 --     counted r          how many rows r has, or its refusal
-use Rattle.std.specs.Prelude.{ℕ, Bool, cond, List, [], ◌∷◌, length, Ok, Err, Result, nat_lt}
+use Rattle.std.specs.Prelude.{ℕ, cond, List, [], ◌∷◌, length, Ok, Err, Result, nat_lt}
 use Rattle.refusals.specs.declared.Refusal.{Refusal}
 use Rattle.refusals.specs.declared.Refusal.TheVariants.{Rows}
 use Rattle.rings.specs.Kinds.{Kind}
