@@ -9,7 +9,7 @@
 --     degree e         the sum of the exponents of e
 --     greater a b      the greater of the exponents of a and b at each place; past the end of one list, the other as it is
 --     Below a b        a comes before b in the lexicographic order of lists of one length: at the first exponent that differs, that of a is less
-use Rattle.std.specs.Prelude.{◌≡◌, ℕ, zero, suc, ◌+◌, ◌-◌, ◌<◌, max, Bool, true, false, ◌&&◌, ◌⊎◌, List, [], ◌∷◌, replicate, ◌==◌, nat_le, slice_index, slice_set}
+use Rattle.std.specs.Prelude.{◌≡◌, ℕ, ◌+◌, ◌-◌, ◌<◌, max, Bool, true, false, ◌&&◌, ◌⊎◌, List, [], ◌∷◌, replicate, ◌==◌, nat_le, slice_index, slice_set}
 
 abbrev pub alike : List ℕ → List ℕ → Bool
 alike [] [] = true

@@ -7,7 +7,7 @@ invariant_of-result c =
     let long : length c.args.self.entries ≡ 8 = search rules in
     let may = addable _ _ _ (sym c.fault.ensures ∙ c.in_default.is) in
     let few = c.args.self.few in
-    (push-few _ _ _ _ long may few, (push_ok _ _ _ _ long may few c.args.self.ok, (push-narrow _ _ _ _ long may few, tt)))
+    record { few = push-few _ _ _ _ long may few; ok = push_ok _ _ _ _ long may few c.args.self.ok; narrow = push-narrow _ _ _ _ long may few }
 
 pub returns : goal.returns
 returns c =
