@@ -2,7 +2,7 @@
 use Rattle.std.proofs.Common.{◌≡◌, ℕ, ◌+◌, ◌-◌, ◌*◌, ◌^◌, ◌<◌, ◌≤◌, List, [], ◌∷◌, length, get_or, drop, None, sym, refl, ◌∙◌, arith}
 use Rattle.std.proofs.lemmas.List.{at_drop_more}
 use Rattle.std.proofs.lemmas.Bool.{le-leb, lt-leb, lt-ltb, le-ltb, and_from, and_left, and_right, cond-true, cond-false}
-use Rattle.limbozafe.specs.Numerals.{reads, natural}
+use Rattle.limbozafe_whole.specs.Numerals.{reads, natural}
 
 pub natural-some : (bs : List ℕ) → 0 < length bs → reads 0 bs ≡ natural bs
 natural-some [] h = absurd (omega arith)

@@ -38,7 +38,7 @@ and prints an answer for each. Ends with status 1 if a command was in error.
   substitute R P Q V         place R: P with Q for the variable V
   truncate R P K N           place R: P without the rows whose first K
                              exponents add to more than N
-  multiply_truncate R P Q K N   place R: the product, truncated so
+  multiply-truncate R P Q K N   place R: the product, truncated so
   equal P Q                  whether two places have the same rows
   leading P                  the key and the figures of P's first row
   write P [ROOM]             the cards of place P

@@ -1,6 +1,6 @@
 // Numbers of a script: decimal digits only, leading zeros allowed.
 ghost use Rattle.std.specs.Prelude.{◌≡◌};
-ghost use Rattle.limbozafe.specs.Numerals.{natural};
+ghost use Rattle.limbozafe_whole.specs.Numerals.{natural};
 
 // The number that a word writes, if it is one of 64 bits.
 pub(crate) fn parse_natural(word: &[u8]) -> Option<u64>

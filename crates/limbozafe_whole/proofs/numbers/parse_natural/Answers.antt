@@ -1,10 +1,10 @@
 use Rattle.std.proofs.Common.{◌≡◌, ◌<◌, length, drop, None, sym, ◌∙◌, arith}
 use Rattle.std.proofs.lemmas.List.{at_drop_all}
 use Rattle.std.proofs.lemmas.Bool.{eqb-false}
-use Rattle.limbozafe.specs.Numerals.{reads, natural}
-use Rattle.limbozafe.proofs.Digits.{natural-some, digit-more, low, high, large}
-use Rattle.limbozafe.proofs.numbers.parse_natural.Goals as goal
-use Rattle.limbozafe.proofs.numbers.parse_natural.Goals.{then-b-lt48-via-then-b-lt48, then-b-lt48-via-else-b-lt48+then-b-gt57}
+use Rattle.limbozafe_whole.specs.Numerals.{reads, natural}
+use Rattle.limbozafe_whole.proofs.Digits.{natural-some, digit-more, low, high, large}
+use Rattle.limbozafe_whole.proofs.numbers.parse_natural.Goals as goal
+use Rattle.limbozafe_whole.proofs.numbers.parse_natural.Goals.{then-b-lt48-via-then-b-lt48, then-b-lt48-via-else-b-lt48+then-b-gt57}
 
 pub returns-then-b-lt48 : goal.returns-then-b-lt48
 returns-then-b-lt48 c =
