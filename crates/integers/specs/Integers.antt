@@ -4,7 +4,7 @@
 --     valued z      the value of z, or Unfit
 --     integers      the kind: the ring of all whole numbers, the values of those that fit, one figure
 --     divided a b   what dividing the value a by b answers
-use Rattle.std.specs.Prelude.{ℕ, Bool, cond, ℤ, pos, negsuc, Ok, Err, Result, int_div, int_rem, nat_le, unsigned_abs}
+use Rattle.std.specs.Prelude.{Bool, cond, ℤ, pos, negsuc, Ok, Err, Result, int_div, int_rem, nat_le, unsigned_abs}
 use Rattle.refusals.specs.declared.Refusal.{Refusal}
 use Rattle.refusals.specs.declared.Refusal.TheVariants.{Unfit, ZeroDivisor, NoQuotient}
 use Rattle.rings.specs.Kinds.{Kind}

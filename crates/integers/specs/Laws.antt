@@ -1,6 +1,6 @@
 -- The integers keep the laws of a kind, and their division answers as a domain's does. Assumes nothing.
-use Rattle.std.specs.Prelude.{◌≡◌, ℕ, zero, suc, ◌<◌, ◌≤◌, Bool, true, false, cond, ◌&&◌, ◌⊎◌, ℤ, pos, negsuc, ◌*ℤ◌, neg_ℤ, is_ok, Ok, Err, Result, FitsSigned, ◌≢◌, int_div, int_le, nat_le, unsigned_abs, refl}
-use Rattle.std.proofs.Common.{sym, ap, subst, ◌∙◌, inl, inr, ⊎_elim, le_trans, mul-le-mul, arith, of_z, to_z}
+use Rattle.std.specs.Prelude.{◌≡◌, ℕ, ◌≤◌, Bool, true, false, cond, ◌&&◌, ◌⊎◌, ℤ, pos, negsuc, ◌*ℤ◌, neg_ℤ, is_ok, Ok, Err, Result, FitsSigned, ◌≢◌, int_div, int_le, nat_le, unsigned_abs, refl}
+use Rattle.std.proofs.Common.{sym, ap, ◌∙◌, inl, inr, ⊎_elim, le_trans, mul-le-mul, arith, of_z, to_z}
 use Rattle.std.proofs.Math.Bool.{and-true, and-false}
 use Rattle.std.specs.Int.Signed.{mag, mag_rem, le_z_yes, rem_z}
 use Rattle.std.specs.Int.{w64}
