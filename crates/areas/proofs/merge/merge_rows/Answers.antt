@@ -17,7 +17,7 @@ next_step-requires g c = record {
 
 pub returns-in_err-step : goal.returns-in_err-step
 returns-in_err-step g c =
-    let p = err_from_is_err_and c.from-residual.result c.from-residual.ensures.1 in
+    let p = err_from_is_err_and c.from_residual.result c.from_residual.ensures.1 in
     let q = merging_refused (giving g.K.Ring.kind c.args.factor) c.args.rows.now c.args.left c.args.right c.args.at c.args.room c.requires c.loop-factor.rows c.loop-factor.merge c.loop-factor.count c.loop-factor.invariant c.in_err-step.field-0.0 c.in_err-step.ensures.next in
     record { answer = p.1 ∙ ap Err p.2 ∙ q.0; filled = q.1 }
 

@@ -13,7 +13,7 @@ returns-then-right g c =
 
 pub returns-in_err-head : goal.returns-in_err-head
 returns-in_err-head g c =
-    let p = err_from_is_err_and c.from-residual.result c.from-residual.ensures.1 in
+    let p = err_from_is_err_and c.from_residual.result c.from_residual.ensures.1 in
     rw p.1 (record { next = head_refused g.K.Ring.kind c.args.factor c.args.rows.now c.args.merge c.requires.within c.requires.none c.if-right.false c.index-rows-right.result c.index-rows-right.is _ (sym c.product.ensures ∙ c.in_err-head.was) ∙ ap Err (sym p.2); goes = tt })
 
 pub returns : goal.returns

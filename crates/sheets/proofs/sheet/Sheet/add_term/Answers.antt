@@ -34,7 +34,7 @@ returns-in_err-raise g c =
     let s = c.args.self.now in
     let u = c.raise.new.self in
     let m = subst (Making K 9 s u _) (ap (made_in 9) c.in_err-raise.was) (raised g (goal.at.returns-in_err-raise g c).After-raise) in
-    let p = err_from_is_err_and c.from-residual-in_err-raise.result c.from-residual-in_err-raise.ensures.1 in
+    let p = err_from_is_err_and c.from_residual-in_err-raise.result c.from_residual-in_err-raise.ensures.1 in
     subst (Making K 8 s u _) (sym (ap (made_in 8) (p.1 ∙ ap Err p.2))) (row-refused K s _ u c.in_err-raise.field-0.0 m)
 
 pub returns-in_err-add : goal.returns-in_err-add
@@ -44,7 +44,7 @@ returns-in_err-add g c =
     let t = c.raise.new.self in
     let u = with_areas t c.add.new.self in
     let m = subst (Making K 9 s t _) (ap (made_in 9) c.in_ok-raise.was) (raised g (goal.at.returns-in_err-add g c).After-raise) in
-    let p = err_from_is_err_and c.from-residual-in_err-add.result c.from-residual-in_err-add.ensures.1 in
+    let p = err_from_is_err_and c.from_residual-in_err-add.result c.from_residual-in_err-add.ensures.1 in
     subst (Making K 8 s u _) (sym (ap (made_in 8) (p.1 ∙ ap Err p.2))) (row-over K s _ t u m c.add.result c.add.ensures.answer (kept-stored K t u 10 _ c.add.ensures.leaves refl c.add.ensures.tidy) c.in_err-add.field-0.0 c.in_err-add.was)
 
 pub returns : goal.returns

@@ -33,7 +33,7 @@ returns-in_err-new g c =
     let t = c.loop-i.self in
     let i = c.loop-i.i in
     let x = c.index-table-i.result in
-    let p = err_from_is_err_and c.from-residual.result c.from-residual.ensures.1 in
+    let p = err_from_is_err_and c.from_residual.result c.from_residual.ensures.1 in
     let m = changing-refused K c.args.change s c.args.place c.requires t i c.loop-i.invariant x (subst (λ n. i < n) (ap length c.table-count.ensures) c.loop-i-test.true) (c.index-table-i.is ∙ ap (λ ys. get_or ys i x) c.table.ensures) c.in_err-new.field-0.0 (sym c.changed_row.ensures ∙ c.in_err-new.was) in
     subst (Making K 8 w t (changed K (variables w.format) c.args.change ((state w).places c.args.place))) (sym (p.1 ∙ ap Err p.2))
     (changing_from K c.args.change s c.args.place w c.requires c.clear.ensures.leaves refl c.clear.ensures.tidy t (Err c.in_err-new.field-0.0) m)

@@ -42,7 +42,7 @@ returns-in_err-at g c =
     let first = kept-stored K s start 10 [] c.clear.ensures.leaves refl c.clear.ensures.tidy in
     let rows = c.table-in-loop-i.ensures ∙ c.loop-i.invariant.kept.others c.args.right c.requires.right in
     let refused = running-refused K 10 (always (table start c.args.left)) (table start c.args.right) start c.loop-i.self u c.loop-i.at c.loop-i.i c.loop-i.invariant (omega (arith, ap length c.table-count.ensures)) c.index-table-i.result (c.index-table-i.is ∙ ap (λ l. get_or l c.loop-i.i c.index-table-i.result) rows) c.turn.result (taken g (goal.at.returns-in_err-at g c).After-turn) c.in_err-at.field-0.0 c.in_err-at.was in
-    let p = err_from_is_err_and c.from-residual.result c.from-residual.ensures.1 in
+    let p = err_from_is_err_and c.from_residual.result c.from_residual.ensures.1 in
     subst (Making K 10 s u _) (sym (p.1 ∙ ap Err p.2)) (making_after K 10 s start u _ _ _ (kept_fewer K (but 10) (below 10) s start (λ o h e. omega arith) first) (product-kept K s start first c.args.left c.args.right c.requires.left c.requires.right) refused)
 
 pub loop-i-preserved : goal.loop-i-preserved

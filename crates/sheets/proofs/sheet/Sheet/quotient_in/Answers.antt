@@ -65,7 +65,7 @@ returns-in_err-row g c =
     let t = c.loop-first.self in
     let first = sym (c.first_row-in-loop-first.ensures ∙ ap row_leading c.table-in-loop-first.ensures) ∙ c.in-Some-first_row.is in
     let refused = division_row K over c.in-Some.by (drop 1 (table start q)) start t c.loop-first.at c.loop-first.invariant c.in-Some-first_row.first first c.in_err-row.field-0.0 (sym c.quotient_row.ensures ∙ c.in_err-row.was) in
-    let p = err_from_is_err_and c.from-residual.result c.from-residual.ensures.1 in
+    let p = err_from_is_err_and c.from_residual.result c.from_residual.ensures.1 in
     subst (Making K 8 s t (quotient K over (state s).vars (state s).room (table s c.args.left) (table s q))) (sym (p.1 ∙ ap Err p.2)) (since g (goal.at.returns-in_err-row g c).After-copy t _ refused)
 
 pub returns-in_err-push : goal.returns-in_err-push
@@ -79,7 +79,7 @@ returns-in_err-push g c =
     let mid = with_areas t c.push.new.self in
     let first = sym (c.first_row-in-loop-first.ensures ∙ ap row_leading c.table-in-loop-first.ensures) ∙ c.in-Some-first_row.is in
     let refused = division_full K over c.in-Some.by (drop 1 (table start q)) start t c.loop-first.at c.loop-first.invariant c.in-Some-first_row.first first c.in_ok-row.row (sym c.quotient_row.ensures ∙ c.in_ok-row.was) mid c.push.result c.push.ensures.answer c.push.ensures.leaves refl c.push.ensures.tidy c.in_err-push.field-0.0 c.in_err-push.was in
-    let p = err_from_is_err_and c.from-residual-in_err-push.result c.from-residual-in_err-push.ensures.1 in
+    let p = err_from_is_err_and c.from_residual-in_err-push.result c.from_residual-in_err-push.ensures.1 in
     subst (Making K 8 s mid (quotient K over (state s).vars (state s).room (table s c.args.left) (table s q))) (sym (p.1 ∙ ap Err p.2)) (since g (goal.at.returns-in_err-push g c).After-copy mid _ refused)
 
 pub turn-requires : goal.turn-requires
@@ -94,7 +94,7 @@ returns-in_err-at g c =
     let q = c.args.right in
     let u = c.turn.new.self in
     let refused = division_refused K over c.in-Some.by (drop 1 (table start q)) start c.loop-first.self u c.loop-first.at c.turn.result (taken g (goal.at.returns-in_err-at g c).After-turn) c.in_err-at.field-0.0 c.in_err-at.was in
-    let p = err_from_is_err_and c.from-residual-in_err-at.result c.from-residual-in_err-at.ensures.1 in
+    let p = err_from_is_err_and c.from_residual-in_err-at.result c.from_residual-in_err-at.ensures.1 in
     subst (Making K 8 s u (quotient K over (state s).vars (state s).room (table s c.args.left) (table s q))) (sym (p.1 ∙ ap Err p.2)) (since g (goal.at.returns-in_err-at g c).After-copy u _ refused)
 
 pub loop-first-smaller : goal.loop-first-smaller

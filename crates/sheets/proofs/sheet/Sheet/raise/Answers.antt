@@ -16,7 +16,7 @@ returns-in_err-at g c =
     let s = c.args.self.now in
     let u = c.product_in.new.self in
     let refused = raising_refused K (table s c.args.right) (table s 9) s c.args.right c.requires refl c.loop-i.self u c.loop-i.-i c.loop-i.invariant c.product_in.result c.product_in.ensures c.in_err-at.field-0.0 c.in_err-at.was c.args.power c.loop-i-test.true in
-    let p = err_from_is_err_and c.from-residual.result c.from-residual.ensures.1 in
+    let p = err_from_is_err_and c.from_residual.result c.from_residual.ensures.1 in
     subst (Making K 9 s u _) (sym (ap (made_in 9) (p.1 ∙ ap Err p.2))) refused
 
 pub loop-i-preserved : goal.loop-i-preserved

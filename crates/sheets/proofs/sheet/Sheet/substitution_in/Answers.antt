@@ -40,7 +40,7 @@ returns-in_err-add_term g c =
     let first = kept_fewer K (but 8) (below 8) s start (λ o h e. omega arith) (kept-stored K s start 8 [] c.clear.ensures.leaves refl c.clear.ensures.tidy) in
     let rows = c.table.ensures ∙ c.loop-i.invariant.kept.others c.args.left c.requires.left in
     let refused = summing_refused K c.args.variable (table start c.args.right) (table start c.args.left) start c.args.right c.requires.right refl c.loop-i.self u c.loop-i.i c.loop-i.invariant (omega (arith, ap length c.table-i-end.ensures)) c.index-table-i.result (c.index-table-i.is ∙ ap (λ l. get_or l c.loop-i.i c.index-table-i.result) rows) c.add_term.result c.add_term.ensures c.in_err-add_term.field-0.0 c.in_err-add_term.was in
-    let p = err_from_is_err_and c.from-residual.result c.from-residual.ensures.1 in
+    let p = err_from_is_err_and c.from_residual.result c.from_residual.ensures.1 in
     subst (Making K 8 s u _) (sym (p.1 ∙ ap Err p.2)) (making_after K 8 s start u _ _ _ first (λ i. substituted K (state s).vars (first.room i) c.args.variable (first.others c.args.right c.requires.right i) [] (first.others c.args.left c.requires.left i)) refused)
 
 pub loop-i-preserved : goal.loop-i-preserved
