@@ -5,7 +5,7 @@ use Rattle.std.proofs.lemmas.Bool.{cases_lt, cond_both, eqb-true}
 use Rattle.rings.specs.Members.{Ops, RingLaws, copies}
 use Rattle.formats.specs.Keys.{alone}
 use Rattle.formats.specs.Exponents.{zeros, exponent, placed, degree}
-use Rattle.algebra.specs.Polynomials.{Poly, Bounded, Finite, term, sum, negative, product, power, derivative, truncation, collected, total}
+use Rattle.algebra.specs.Polynomials.{Poly, Bounded, Finite, term, sum, product, power, derivative, truncation, collected, total}
 use Rattle.algebra.specs.Theorems.{Closed}
 use Rattle.algebra.proofs.Splits.{zero-plus, zero-times, times_zero, splits-none}
 use Rattle.algebra.proofs.Exponents.{exponent-added, exponent-degree, exponent-raised}

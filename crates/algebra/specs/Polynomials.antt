@@ -20,7 +20,7 @@
 --     collected v i p    what stands with the power i of the variable v: a polynomial in which v has exponent 0
 --     total f B          the sum of f 0, f 1, .., f B
 --     substitution v B p q     p with q for the variable v, where the exponents of v in p are at most B: the sum of what stands with each power, times that power of q
-use Rattle.std.specs.Prelude.{◌≡◌, ℕ, zero, suc, ◌+◌, ◌<◌, Bool, cond, List, [], ◌∷◌, length, take, ◌==◌, nat_le}
+use Rattle.std.specs.Prelude.{◌≡◌, ℕ, zero, suc, ◌<◌, cond, List, [], ◌∷◌, length, take, ◌==◌, nat_le}
 use Rattle.rings.specs.Members.{Ops, copies}
 use Rattle.formats.specs.Keys.{alone}
 use Rattle.formats.specs.Exponents.{alike, zeros, exponent, placed, degree}
