@@ -2,7 +2,7 @@
 --     capacity-fits     twelve areas are at most the lent rows
 --     area_end          an area ends where the next one starts, at the latest
 --     areas_apart       so two areas have no row in common
-use Rattle.std.proofs.Common.{◌≡◌, ℕ, suc, ◌+◌, ◌*◌, ◌<◌, ◌≤◌, sym, refl, ap, ◌∙◌, mul-le-mul_right, suc-mul, arith}
+use Rattle.std.proofs.Common.{ℕ, ◌+◌, ◌*◌, ◌<◌, ◌≤◌, mul-le-mul_right, suc-mul, arith}
 use Rattle.tables.specs.Sheets.{capacity}
 
 pub capacity-fits : (n : ℕ) → 12 * capacity n ≤ n

@@ -5,17 +5,17 @@
 --     merging_skip    a turn that gives none
 --     merging_refused a turn that is refused
 --     merging_over, merging_all     the end, with too many rows or with room for all
-use Rattle.std.proofs.Common.{◌≡◌, ℕ, suc, ◌+◌, ◌-◌, ◌^◌, ◌<◌, ◌≤◌, cond, ltb, ◌⊎◌, List, [], ◌∷◌, ◌++◌, length, take, drop, set, Some, None, Ok, Err, Option, Result, sym, refl, ap, ◌∙◌, subst, inl, inr, ⊎_elim, arith}
+use Rattle.std.proofs.Common.{◌≡◌, ℕ, ◌+◌, ◌-◌, ◌^◌, ◌<◌, ◌≤◌, cond, ltb, List, [], ◌∷◌, ◌++◌, length, take, set, Ok, Err, Result, sym, refl, ap, ◌∙◌, subst, inl, inr, ⊎_elim, arith}
 use Rattle.std.proofs.lemmas.List.{append-nil, append_assoc, length_push, length-take, take_all, take-append-le}
 use Rattle.std.proofs.lemmas.Bool.{lt-ltb, le-ltb, cond-true, cond-false, cases_lt}
 use Rattle.refusals.specs.declared.Refusal.{Refusal}
 use Rattle.refusals.specs.declared.Refusal.TheVariants.{Rows}
 use Rattle.rings.specs.Kinds.{Kind}
-use Rattle.rows.specs.Lists.{part, put, Clear}
+use Rattle.rows.specs.Lists.{put, Clear}
 use Rattle.rows.specs.Tables.{sum, consed, limited, counted}
 use Rattle.rows.specs.declared.Row.{Row}
 use Rattle.rows.proofs.Writing.{put-push, put-none, length_put, part-put-apart}
-use Rattle.tables.specs.Merging.{spanned, Spans, Goes, Mergeable, Filled, prepended}
+use Rattle.tables.specs.Merging.{spanned, Spans, Goes, Mergeable, Filled}
 use Rattle.tables.specs.declared.span.Span.{Span}
 use Rattle.tables.proofs.Steps.{spanned-none}
 

@@ -2,11 +2,11 @@
 --     stored-place, stored-others    the table that was stored, and the tables of the other places
 --     cleared-places                 clearing the working area changes no place
 --     adding                         an addition in the words of algebra
-use Rattle.std.proofs.Common.{◌≡◌, ℕ, ◌+◌, ◌-◌, ◌*◌, ◌<◌, ◌≤◌, min, cond, ◌⊎◌, List, ◌++◌, length, get_or, take, drop, set, replicate, Ok, Err, Result, sym, refl, ap, ◌∙◌, subst, inl, inr, ⊎_elim, arith}
+use Rattle.std.proofs.Common.{◌≡◌, ℕ, ◌+◌, ◌-◌, ◌*◌, ◌<◌, ◌≤◌, min, List, ◌++◌, length, get_or, take, drop, replicate, Ok, Err, Result, sym, refl, ap, ◌∙◌, subst, inl, inr, ⊎_elim, arith}
 use Rattle.std.proofs.lemmas.List.{length-append, length-replicate, take-take, take_at, get_or-set_same, get_or-set_other}
 use Rattle.std.proofs.lemmas.Bool.{cases_lt, cases_order, lt-ltb, le-ltb, cond-true, cond-false}
 use Rattle.refusals.specs.declared.Refusal.{Refusal}
-use Rattle.refusals.specs.declared.Refusal.TheVariants.{Unfit, Rows}
+use Rattle.refusals.specs.declared.Refusal.TheVariants.{Rows}
 use Rattle.rings.specs.Kinds.{Kind, ValueLaws}
 use Rattle.rings.specs.Members.{RingLaws}
 use Rattle.rows.specs.Lists.{put, part, Clear}
@@ -17,7 +17,7 @@ use Rattle.rows.proofs.Canonical.{sum-adds, sum_overflows}
 use Rattle.rows.proofs.Writing.{length_put, part-put, part-put-apart}
 use Rattle.tables.specs.Sheets.{State, capacity, room, count, place, stored, cleared, settled, answered}
 use Rattle.tables.specs.Calls.{add_answer, add_leaves}
-use Rattle.tables.specs.Promises.{Keeps, SumOf, NoSum, Answering, Adding}
+use Rattle.tables.specs.Promises.{Keeps, SumOf, Answering, Adding}
 use Rattle.tables.proofs.Adds.{answers, leaves}
 use Rattle.tables.proofs.Areas.{area_end, areas_apart}
 

@@ -1,4 +1,4 @@
-use Rattle.std.proofs.Common.{◌+◌, cond, ltb, set, Err, sym, ap, ◌∙◌}
+use Rattle.std.proofs.Common.{◌+◌, cond, ltb, set, Err, ap, ◌∙◌}
 use Rattle.std.proofs.lemmas.Result.{err_from_is_err_and}
 use Rattle.rows.specs.Tables.{sum}
 use Rattle.tables.specs.Merging.{spanned, prepended}
@@ -10,7 +10,7 @@ loop-l-init g c = merging_none g.K.Ring.kind c.args.rows.now c.args.left c.args.
 
 pub returns-in_err-step : goal.returns-in_err-step
 returns-in_err-step g c =
-    let p = err_from_is_err_and c.from-residual.result c.from-residual.ensures.1 in
+    let p = err_from_is_err_and c.from_residual.result c.from_residual.ensures.1 in
     let q = merging_refused g.K.Ring.kind c.args.rows.now c.args.left c.args.right c.args.at c.args.room c.requires c.loop-l.rows c.loop-l.l c.loop-l.r c.loop-l.count c.loop-l.invariant c.in_err-step.field-0.0 c.in_err-step.ensures.next in
     record { answer = p.1 ∙ ap Err p.2 ∙ q.0; filled = q.1 }
 

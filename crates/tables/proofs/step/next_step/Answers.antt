@@ -27,7 +27,7 @@ returns-then-b-a g c =
 
 pub returns-in_err-coefficient : goal.returns-in_err-coefficient
 returns-in_err-coefficient g c =
-    let p = err_from_is_err_and c.from-residual.result c.from-residual.ensures.1 in
+    let p = err_from_is_err_and c.from_residual.result c.from_residual.ensures.1 in
     rw p.1 (record { next = equal-refused g.K.Ring.kind c.args.rows.now c.args.left c.args.right c.requires.within c.if-left.false c.if-right.false c.index-rows-left-2.result c.index-rows-right-2.result c.index-rows-left-2.is c.index-rows-right-2.is c.if-a-b.false c.if-b-a.false _ (sym c.plus.ensures ∙ c.in_err-coefficient.was) ∙ ap Err (sym p.2); goes = tt })
 
 pub returns : goal.returns

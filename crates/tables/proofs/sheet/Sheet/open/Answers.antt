@@ -1,4 +1,4 @@
-use Rattle.std.proofs.Common.{length, replicate, ap, ◌∙◌}
+use Rattle.std.proofs.Common.{length, replicate, ◌∙◌}
 use Rattle.std.proofs.lemmas.List.{length-replicate}
 use Rattle.formats.specs.Drafts.{variables}
 use Rattle.rows.specs.Tables.{blank}

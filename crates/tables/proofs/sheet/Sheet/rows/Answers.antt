@@ -1,5 +1,4 @@
-use Rattle.std.proofs.Common.{◌≡◌, ◌+◌, ◌*◌, ◌≤◌, length, ap, arith, rules}
-use Rattle.tables.specs.Sheets.{state, room}
+use Rattle.std.proofs.Common.{◌+◌, ◌*◌, ◌≤◌, length, ap, arith, rules}
 use Rattle.tables.proofs.Areas.{area_end}
 use Rattle.tables.proofs.sheet.Sheet.rows.Goals as goal
 
