@@ -1,5 +1,5 @@
 -- The Gaussian integers keep the laws of a kind, and their division answers as a domain's does. Assumes nothing.
-use Rattle.std.specs.Prelude.{◌≡◌, zero, ◌≤◌, Bool, true, false, cond, ◌&&◌, ℤ, pos, negsuc, Ok, Err, Decides, ◌≢◌, int_le, int_rem, nat_le, unsigned_abs, refl}
+use Rattle.std.specs.Prelude.{◌≡◌, ◌≤◌, Bool, true, false, cond, ◌&&◌, ℤ, pos, negsuc, Ok, Err, Decides, ◌≢◌, int_le, int_rem, nat_le, unsigned_abs, refl}
 use Rattle.std.proofs.Common.{sym, ap, subst, ◌∙◌, inr, ⊎_elim, arith}
 use Rattle.std.specs.Int.Signed.{le_z_yes}
 use Rattle.std.proofs.lemmas.Bool.{leb-true, le-leb, cond-true, cond-false, cond_both, cases_Bool, true≢false, and_parts, and_from}
