@@ -2,7 +2,7 @@
 --     push-fits        there is room for one more
 --     unpack-push      it comes after those that were there
 --     masked           a key without the bits above its fields
-use Rattle.std.proofs.Common.{◌≡◌, ℕ, zero, suc, ◌+◌, ◌-◌, ◌*◌, ◌/◌, ◌%◌, ◌^◌, ◌<◌, ◌≤◌, List, [], ◌∷◌, ◌++◌, sym, refl, ap, ◌∙◌, mod-eq_of_lt, mul_assoc, suc-mul, mul_comm, add-mul, div-one, arith}
+use Rattle.std.proofs.Common.{◌≡◌, ℕ, suc, ◌+◌, ◌-◌, ◌*◌, ◌/◌, ◌%◌, ◌^◌, ◌<◌, ◌≤◌, List, [], ◌∷◌, ◌++◌, sym, refl, ap, ◌∙◌, mod-eq_of_lt, mul_assoc, suc-mul, mul_comm, add-mul, div-one, arith}
 use native.Mathlib.Nat.{mul-add-mod_self_right}
 use lib.Bits.{bit_and}
 use Rattle.std.proofs.lemmas.Nat.{pow_pos, pow-add, shr-shr, shr_high, mod_low, mod_below, div-add-mod', mul-add-lt, and_mask}

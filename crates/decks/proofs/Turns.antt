@@ -6,7 +6,7 @@
 --     number_fault, number_more, number-ends      a number ends, and is refused, goes into the term, or ends the deck
 --     term_entered, term-refused                  it completes a term, which is entered or refused
 --     reading-byte, reading_end                   these are turns of a text: at a byte, and at its end
-use Rattle.std.proofs.Common.{◌≡◌, ℕ, suc, ◌+◌, ◌<◌, ◌≤◌, eqb, List, [], ◌∷◌, length, get_or, drop, Some, None, Ok, Err, Option, Result, sym, refl, ap, ◌∙◌, add-one}
+use Rattle.std.proofs.Common.{◌≡◌, ℕ, suc, ◌+◌, ◌<◌, ◌≤◌, eqb, List, length, get_or, drop, Some, None, Ok, Err, Option, Result, sym, refl, ap, ◌∙◌, add-one}
 use Rattle.std.proofs.lemmas.List.{drop_more, drop_all, at_drop_more, at_drop_all}
 use Rattle.std.proofs.lemmas.Bool.{eq-eqb, ne_eqb, cond-true, cond-false}
 use Rattle.refusals.specs.declared.Refusal.{Refusal}
@@ -20,10 +20,9 @@ use Rattle.texts.specs.Terms as terms
 use Rattle.texts.specs.Terms.{taken}
 use Rattle.texts.specs.Terms.Partial.{none}
 use Rattle.texts.specs.Reading.{through, Deck, Entering, with_step, reading}
-use Rattle.decks.specs.Shown.{fault_of, number_of, number_if, card_of, step_of, shown, partial_of, got_shown}
+use Rattle.decks.specs.Shown.{fault_of, number_of, number_if, card_of, shown, partial_of, got_shown}
 use Rattle.decks.specs.declared.fault.Fault.{Fault}
 use Rattle.decks.specs.declared.number.Number.{Number}
-use Rattle.decks.specs.declared.card.Card.{Card}
 use Rattle.decks.specs.declared.card.Step.{Step}
 use Rattle.decks.specs.declared.partial.Partial.{Partial}
 use Rattle.decks.specs.declared.partial.Got.{Got}

@@ -1,4 +1,4 @@
-use Rattle.std.proofs.Common.{◌/◌, ◌^◌, true, pos, nat_abs, sym, refl, ap, ◌∙◌, arith}
+use Rattle.std.proofs.Common.{◌/◌, ◌^◌, pos, nat_abs, sym, refl, ap, ◌∙◌, arith}
 use native.Mathlib.Nat.{div-eq_of_lt}
 use lib.Signed.{lt_z}
 use Rattle.std.proofs.lemmas.Bool.{ltb-true}

@@ -8,7 +8,7 @@ use Rattle.decks.proofs.power.power.Goals as goal
 
 pub returns-in_err-exponent : goal.returns-in_err-exponent
 returns-in_err-exponent g c =
-    let p = err_from_is_err_and c.from-residual.result c.from-residual.ensures.1 in
+    let p = err_from_is_err_and c.from_residual.result c.from_residual.ensures.1 in
     rw (p.1, p.2)
     (power-refused (variables c.args.format.now) (sound c.args.format.now) c.args.powers.coefficient c.args.powers.first c.args.powers.count c.args.powers.key c.width_of-width.result c.width_of-width.ensures.width c.args.number.first c.args.number.value c.in_err-exponent.field-0.0 c.in_err-exponent.ensures.0 c.in_err-exponent.ensures.1)
 

@@ -1,5 +1,3 @@
-use Rattle.std.proofs.Common.{ap}
-use Rattle.texts.specs.Numbers.{Number}
 use Rattle.decks.proofs.Values.{cast_fits, negative_fits, value-negative, value_positive}
 use Rattle.decks.proofs.begun.Begun.ended.Goals as goal
 
