@@ -6,7 +6,7 @@
 --     card K vs x         the card of the row x: figures, a blank, exponents, byte 10
 --     ending K            the card that ends a deck: the figures of zero
 --     deck K vs xs        the cards of the rows xs, and the one that ends them
-use Rattle.std.specs.Prelude.{ℕ, cond, List, [], ◌∷◌, ◌++◌, map, ℤ, decimal, ◌==◌}
+use Rattle.std.specs.Prelude.{ℕ, cond, List, [], ◌∷◌, ◌++◌, map, decimal, ◌==◌}
 use Rattle.std.specs.Fmt.{signed_decimal}
 use Rattle.rings.specs.Kinds.{Kind}
 use Rattle.formats.specs.Keys.{unpack}

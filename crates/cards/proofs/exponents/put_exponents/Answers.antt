@@ -1,6 +1,6 @@
-use Rattle.std.proofs.Common.{length, get_or, take, sym, ap, ◌∙◌, subst, arith}
+use Rattle.std.proofs.Common.{get_or, take, sym, subst}
 use Rattle.std.proofs.lemmas.List.{take_all}
-use Rattle.cards.specs.Bytes.{Fits, Wrote}
+use Rattle.cards.specs.Bytes.{Wrote}
 use Rattle.cards.specs.Decks.{exponents, item}
 use Rattle.cards.proofs.Texts.{wrote_none, wrote_next, fits-back, exponents-push, exponents-room}
 use Rattle.cards.proofs.exponents.put_exponents.Goals as goal

@@ -1,4 +1,4 @@
-use Rattle.std.proofs.Common.{◌≡◌, ◌*◌, length, drop, ap, ◌∙◌, arith}
+use Rattle.std.proofs.Common.{◌*◌, length, drop, ap, ◌∙◌, arith}
 use Rattle.std.proofs.lemmas.List.{length-take}
 use Rattle.tables.specs.Sheets.{state, room, count}
 use Rattle.cards.proofs.writing.write.Goals as goal
