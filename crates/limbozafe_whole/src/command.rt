@@ -1,7 +1,7 @@
 // A command of a script.
 use crate::fault::Fault;
+use crate::line_words::Words;
 use crate::settings::Kind;
-use crate::words::Words;
 use uses::{Call, DomainCall};
 
 #[derive(Clone, Copy)]

@@ -4,12 +4,12 @@
 mod answers;
 mod command;
 mod fault;
+mod line_words;
 mod numbers;
 mod performs;
 mod script;
 mod session;
 mod settings;
-mod words;
 
 use anyhow::anyhow;
 use session::run;

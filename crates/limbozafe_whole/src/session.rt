@@ -2,10 +2,10 @@
 use crate::answers::{answer, print_answer};
 use crate::command::{Command, parse};
 use crate::fault::Fault;
+use crate::line_words::Words;
 use crate::performs::Performs;
 use crate::script::Script;
 use crate::settings::{Kind, Settings};
-use crate::words::Words;
 use formats::Format;
 use gaussian::Gaussian;
 use integers::Integer;

@@ -1,6 +1,6 @@
 // What the next sheet is opened with.
 use crate::fault::Fault;
-use crate::words::Words;
+use crate::line_words::Words;
 use formats::{Draft, Format};
 use refusals::Refusal;
 
