@@ -1,7 +1,7 @@
 -- Canonical rows with one more row below all of them. Assumes nothing.
 --     every_append, every_weaker     what holds of every row
 --     append-rows                    the rows of a polynomial and that of a lower term are the rows of their sum
-use Rattle.std.proofs.Common.{◌≡◌, ℕ, ◌^◌, ◌<◌, List, [], ◌∷◌, ◌++◌, length, sym, ap, ◌∙◌, ap₂}
+use Rattle.std.proofs.Common.{◌≡◌, ℕ, ◌^◌, ◌<◌, List, [], ◌∷◌, ◌++◌, sym, ap, ◌∙◌, ap₂}
 use Rattle.rings.specs.Members.{RingLaws}
 use Rattle.rings.specs.Kinds.{Kind, IsValue, ValueLaws}
 use Rattle.formats.specs.Keys.{unpack}

@@ -1,9 +1,9 @@
 -- Exact division of canonical rows finds the quotient of polynomials exactly if there is one, unless a limit stops it. Assumes nothing.
 --     run                from a quotient so far and its remainder
 --     exact_division_lem     from no quotient so far
-use Rattle.std.proofs.Common.{◌≡◌, ℕ, zero, suc, ◌+◌, ◌-◌, ◌^◌, ◌<◌, ◌≤◌, true, false, ltb, ◌⊎◌, List, [], ◌∷◌, ◌++◌, length, Ok, Err, Result, sym, refl, ap, ◌∙◌, subst, ap₂, inl, inr, ⊎_elim, arith}
+use Rattle.std.proofs.Common.{◌≡◌, ℕ, zero, suc, ◌+◌, ◌^◌, ◌<◌, ◌≤◌, true, false, ◌⊎◌, List, [], ◌∷◌, ◌++◌, length, Ok, Err, Result, sym, refl, ap, ◌∙◌, subst, inl, inr, ⊎_elim, arith}
 use Rattle.std.proofs.lemmas.List.{length-append}
-use Rattle.std.proofs.lemmas.Bool.{cond_both, ltb-true, lt-ltb, and_parts, and_from, false≢true}
+use Rattle.std.proofs.lemmas.Bool.{cond_both}
 use Rattle.refusals.specs.declared.Refusal.{Refusal}
 use Rattle.refusals.specs.declared.Refusal.TheVariants.{Unfit, Exponent, Rows, NoQuotient, QuotientUnfit}
 use Rattle.rings.specs.Members.{RingLaws, NoZeroDivisors}
@@ -19,7 +19,7 @@ use Rattle.rows.specs.Tables.{row}
 use Rattle.rows.specs.declared.Row.{Row}
 use Rattle.algebra.specs.Polynomials.{Poly, Agree, nought, term, sum, negative, product}
 use Rattle.algebra.specs.Leading.{Leading}
-use Rattle.algebra.specs.Tables.{Every, Term, CanonicalRows}
+use Rattle.algebra.specs.Tables.{Every, CanonicalRows}
 use Rattle.algebra.specs.Theorems.{LeadingTerms}
 use Rattle.algebra.proofs.Dividing.{dividing}
 use Rattle.algebra.proofs.Exponents.{length_lowered, added-lowered}
@@ -30,14 +30,14 @@ use Rattle.algebra.proofs.Splits.{zero-plus, zero-times}
 use Rattle.algebra.proofs.Tabling.{tabling}
 use Rattle.arithmetic.specs.Dividing.{Over, opposed, with_coefficient, leading, then, divided, quotient}
 use Rattle.arithmetic.specs.Multiplying.{step}
-use Rattle.arithmetic.specs.Quotients.{Stopped, Divided, Quotients}
+use Rattle.arithmetic.specs.Quotients.{Divided, Quotients}
 use Rattle.arithmetic.specs.Refusals.{Unfitting, TooLarge}
 use Rattle.formats.proofs.Lists.{within-lowered}
 use Rattle.arithmetic.specs.Theorems.{Gives}
 use Rattle.arithmetic.proofs.Giving.{gives_weaker, large_agree}
 use Rattle.algebra.proofs.Tabling.{every_under}
 use Rattle.arithmetic.proofs.Opposites.{product-opposite, meaning-of}
-use Rattle.arithmetic.proofs.Stepping.{Beyond, Unstepped, step_gives}
+use Rattle.arithmetic.proofs.Stepping.{Unstepped, step_gives}
 use Rattle.arithmetic.proofs.Leads.{row-member, row-key, leading-of-rows, rows-below}
 use Rattle.arithmetic.proofs.Appended.{every_append, every_weaker, append-rows}
 

@@ -1,7 +1,7 @@
 -- A product of tables, row by row of the second: the running table is the product with the terms so far. Assumes nothing.
 --     Paired             rows picked for each row of the second table, as a way to multiply has them
 --     multiplied_gives   the product that such rows make
-use Rattle.std.proofs.Common.{◌≡◌, ℕ, ◌^◌, ◌<◌, ◌≤◌, true, false, ◌⊎◌, List, [], ◌∷◌, length, sym, refl, ap, ◌∙◌, subst, inl, inr, ⊎_elim, arith, MatchResult}
+use Rattle.std.proofs.Common.{◌≡◌, ℕ, ◌^◌, ◌<◌, ◌≤◌, true, false, List, [], ◌∷◌, length, sym, refl, ap, ◌∙◌, subst, inl, inr, ⊎_elim, arith, MatchResult}
 use Rattle.refusals.specs.declared.Refusal.{Refusal}
 use Rattle.rings.specs.Members.{RingLaws}
 use Rattle.rings.specs.Kinds.{Kind, ValueLaws}

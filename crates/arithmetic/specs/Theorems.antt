@@ -1,7 +1,7 @@
 -- What the arithmetic of tables means. Where tables are the canonical rows of polynomials in the variables vs of a format, over a kind K that keeps the laws, in areas of c rows:
 --     Gives K vs p Bad r     r is the canonical rows of p, or a refusal of which Bad holds
 --     TableArithmetic K vs c     each operation on tables gives the operation on polynomials, or a refusal with its cause
-use Rattle.std.specs.Prelude.{◌≡◌, ℕ, ◌<◌, ◌≤◌, List, [], length, Ok, Err, Result}
+use Rattle.std.specs.Prelude.{◌≡◌, ℕ, ◌<◌, List, [], length, Ok, Err, Result}
 use Rattle.refusals.specs.declared.Refusal.{Refusal}
 use Rattle.refusals.specs.declared.Refusal.TheVariants.{Unfit}
 use Rattle.rings.specs.Kinds.{Kind}

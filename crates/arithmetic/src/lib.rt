@@ -16,5 +16,5 @@ pub fn table_arithmetic<K: Ring>()
 
 // Exact division of canonical rows finds the quotient of polynomials exactly if there is one, unless a limit stops it.
 pub fn exact_division<K: Domain>()
-    ensures { (vs : List VariableOf) (c : ℕ) → Sound vs → K.Ring.whole ≡ true → Quotients K.Ring.kind quotient vs c }
+    ensures { (vs : List VariableOf) (c : ℕ) → Sound vs → K.Ring.whole ≡ true → Quotients K.Ring.kind K.quotient vs c }
 {}

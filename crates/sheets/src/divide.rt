@@ -19,7 +19,7 @@ use rows::Row;
 
 // The row whose product with `by` is `row`.
 fn quotient_row<K: Domain>(format: &Format, row: Row<K>, by: Row<K>) -> Result<Row<K>, Refusal>
-    ensures { result ≡ leading-quotient quotient (variables format.now) row by }
+    ensures { result ≡ leading-quotient K.quotient (variables format.now) row by }
 {
     let Some(key) = format.difference(row.key, by.key) else {
         return Err(Refusal::NoQuotient);
@@ -43,7 +43,7 @@ impl<K: Domain> Sheet<'_, K> {
     pub(crate) fn quotient_in(&mut self, left: usize, right: usize) -> Result<usize, Refusal>
         requires left { left < 8 }
         requires right { right < 8 }
-        ensures { Making K.Ring.kind 8 self.old self.new (quotient-rows K.Ring.kind quotient (state self.old).vars (state self.old).room (table self.old left) (table self.old right)) result }
+        ensures { Making K.Ring.kind 8 self.old self.new (quotient-rows K.Ring.kind K.quotient (state self.old).vars (state self.old).room (table self.old left) (table self.old right)) result }
     {
         let Some(by) = first_row(self.areas.table(right)) else {
             return Err(Refusal::ZeroDivisor);
@@ -62,8 +62,8 @@ impl<K: Domain> Sheet<'_, K> {
 
     // Makes the exact quotient of two places the rows of a place. What that means in algebra rests on nonzero members having a nonzero product.
     pub fn divide(&mut self, res: usize, left: usize, right: usize) -> Result<(), Refusal>
-        ensures answer { result ≡ answered (divided K.Ring.kind quotient (state self.old) res left right) }
-        ensures leaves { state self.new ≡ kept (state self.old) res (divided K.Ring.kind quotient (state self.old) res left right) }
+        ensures answer { result ≡ answered (divided K.Ring.kind K.quotient (state self.old) res left right) }
+        ensures leaves { state self.new ≡ kept (state self.old) res (divided K.Ring.kind K.quotient (state self.old) res left right) }
         ensures blank { Blank K.Ring.kind self.old → Blank K.Ring.kind self.new }
         ensures algebra { K.Ring.whole ≡ true → Dividing K.Ring.kind (state self.old) (state self.new) result res left right }
     {

@@ -8,7 +8,7 @@ use Rattle.sheets.specs.Ends.{Making}
 use Rattle.sheets.proofs.States.{with_areas}
 use Rattle.sheets.proofs.Changing.{not_refused, storing-again, Changing, changing-none, changing-place, changing-some, changing_skip, changing-fits, changing-refused, changing_all, changing_from}
 use Rattle.sheets.proofs.sheet.Sheet.change_rows.Goals as goal
-use Rattle.sheets.proofs.sheet.Sheet.change_rows.Goals.{in-Some+in-ok-push, in_default}
+use Rattle.sheets.proofs.sheet.Sheet.change_rows.Goals.{in-Some+in_ok-push, in_default}
 
 pub loop-i-init : goal.loop-i-init
 loop-i-init g c =
@@ -58,7 +58,7 @@ loop-i-preserved g c =
     let h = subst (λ n. i < n) (ap length c.table-count.ensures) c.loop-i-test.true in
     let read = c.index-table-i.is ∙ ap (λ ys. get_or ys i x) c.table.ensures in
     elim c.match-branch-2.branch [
-      | in-Some+in-ok-push w ↦ changing-some K c.args.change s c.args.place c.requires t i c.loop-i.invariant x h read w.in-Some.new (sym c.changed_row.ensures ∙ c.in_ok-new.was ∙ ap Ok w.in-Some.is) u (ap (λ v. contents v.areas) w.self-is ∙ w.push.ensures.leaves) (ap (λ v. v.format) w.self-is) (subst (λ v. Tidy K t.areas → Tidy K v.areas) (sym w.self-is) w.push.ensures.tidy)
+      | in-Some+in_ok-push w ↦ changing-some K c.args.change s c.args.place c.requires t i c.loop-i.invariant x h read w.in-Some.new (sym c.changed_row.ensures ∙ c.in_ok-new.was ∙ ap Ok w.in-Some.is) u (ap (λ v. contents v.areas) w.self-is ∙ w.push.ensures.leaves) (ap (λ v. v.format) w.self-is) (subst (λ v. Tidy K t.areas → Tidy K v.areas) (sym w.self-is) w.push.ensures.tidy)
       | in_default w ↦ subst (λ v. Changing K c.args.change s c.args.place v (i + 1)) (sym w.self-is) (changing_skip K c.args.change s c.args.place c.requires t i c.loop-i.invariant x h read (sym c.changed_row.ensures ∙ c.in_ok-new.was ∙ ap Ok w.in_default.is))
     ]
 

@@ -12,7 +12,7 @@ returns g c =
     let K = g.K.Ring.kind in
     let s = c.args.self.now in
     let p = c.args.place in
-    let is : c.row_leading.result ≡ row_leading ((state s).places p) = c.row_leading.ensures ∙ ap row_leading (c.table.ensures ∙ sym (place-table s p (omega arith))) in
+    let is : c.first_row.result ≡ row_leading ((state s).places p) = c.first_row.ensures ∙ ap row_leading (c.table.ensures ∙ sym (place-table s p (omega arith))) in
     record {
       answer = ap Ok is ∙ sym (cond-true _ _ _ (lt-ltb p 8 (omega arith)));
       algebra = λ f h hp. subst (λ o. Leads K (state s) (f p) (Ok o)) (sym is) (leading-of-rows K g.met.K.Ring.ring g.met.K.Ring.values (state s) (f p) ((state s).places p) (h p hp));

@@ -18,16 +18,16 @@ returns g c =
     let c₀ = contents s.areas in
     let c₁ = contents c.clear.new.self in
     let c₂ = contents c.push.new.self in
-    let c₃ = contents c.add_answer.new.self in
+    let c₃ = contents c.add-answer.new.self in
     let c₄ = contents c.copy.new.self in
     let e₁ = c.clear.ensures.leaves in
     let e₂ = c.push.ensures.leaves in
-    let e₃ = c.add_answer.ensures.leaves in
+    let e₃ = c.add-answer.ensures.leaves in
     let e₄ = c.copy.ensures.leaves in
     let few = table-room s.areas 8 in
     record {
-      answer = c.add_answer.ensures.answer ∙ ap answered (merged_sum K c₀ c₁ c.args.row e₁ c.requires few c₂ c₃ c₄ e₂ e₃ e₄);
+      answer = c.add-answer.ensures.answer ∙ ap answered (merged_sum K c₀ c₁ c.args.row e₁ c.requires few c₂ c₃ c₄ e₂ e₃ e₄);
       made = merged_rows K c₀ c₁ c.args.row e₁ c.requires few c₂ c₃ c₄ e₂ e₃ e₄;
       leaves = merged_state K c₀ c₁ c.args.row e₁ c.requires few c₂ c₃ c₄ e₂ e₃ e₄ (variables s.format);
-      neat = λ t. c.copy.ensures.tidy (c.add_answer.ensures.tidy (c.push.ensures.tidy (c.clear.ensures.tidy t)));
+      neat = λ t. c.copy.ensures.tidy (c.add-answer.ensures.tidy (c.push.ensures.tidy (c.clear.ensures.tidy t)));
     }

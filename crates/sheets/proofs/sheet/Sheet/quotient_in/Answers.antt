@@ -23,7 +23,7 @@ begins g c =
     begun K s mid start c.args.left c.requires.left c.clear.ensures.leaves (kept-stored K s mid 8 [] c.clear.ensures.leaves refl c.clear.ensures.tidy) c.copy.ensures.leaves (kept-stored K mid start 10 (table mid c.args.left) c.copy.ensures.leaves refl c.copy.ensures.tidy)
 
 leads : (g : given.Over) (c : After-copy g) → row_leading (table c.args.self.now c.args.right) ≡ Some c.in-Some.by
-leads g c = sym (c.row_leading.ensures ∙ ap row_leading c.table.ensures) ∙ c.in-Some.is
+leads g c = sym (c.first_row.ensures ∙ ap row_leading c.table.ensures) ∙ c.in-Some.is
 
 -- what was made since the first step was made since the call
 since : (g : given.Over) (c : After-copy g) (u : Sheet g.row.K.Denot) (made : Result ℕ Refusal) → let start = with_areas c.args.self.now c.copy.new.self in Making g.K.Ring.kind 8 start u (all g.K.Ring.kind g.K.Domain.quotient c.in-Some.by (drop 1 (table start c.args.right)) start) made → Making g.K.Ring.kind 8 c.args.self.now u (quotient g.K.Ring.kind g.K.Domain.quotient (state c.args.self.now).vars (state c.args.self.now).room (table c.args.self.now c.args.left) (table c.args.self.now c.args.right)) made
