@@ -18,7 +18,7 @@ use Rattle.formats.specs.Keys.{pack, unpack, replaced}
 use Rattle.formats.specs.declared.variable.Variable.{Variable}
 use Rattle.formats.proofs.Lists.{within-unpack}
 use Rattle.rows.specs.Products.{continued}
-use Rattle.rows.specs.Tables.{row, sum, limited}
+use Rattle.rows.specs.Tables.{sum, limited}
 use Rattle.rows.specs.declared.Row.{Row}
 use Rattle.areas.specs.Areas.{contents, storing, rows_of, answered, apart, pushed, added, kept as held, Tidy}
 use Rattle.arithmetic.specs.Multiplying.{product}

@@ -5,7 +5,6 @@ use Rattle.formats.specs.Drafts.{variables}
 use Rattle.sheets.specs.Ends.{Making, made_in}
 use Rattle.sheets.specs.Working.{table}
 use Rattle.sheets.proofs.States.{with_areas}
-use Rattle.rows.specs.Tables.{row}
 use Rattle.arithmetic.specs.Substituting.{term_raised}
 use Rattle.sheets.proofs.Changing.{not_refused}
 use Rattle.sheets.proofs.Products.{kept-stored}
