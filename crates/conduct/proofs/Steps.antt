@@ -39,7 +39,7 @@ use Rattle.sheets.specs.Promises.{Formulas, giving, NoConstant}
 use Rattle.sheets.specs.Sheets.{State, placed, stored, kept}
 use Rattle.sheets.proofs.Terms.{constant_gives, variable_gives}
 use Rattle.conduct.specs.Calls.{Call, Answer, divides, accepted, answer, after, changing, read_answer, read_leaves}
-use Rattle.conduct.specs.Calls.Answer.{bytes, refused}
+use Rattle.conduct.specs.Calls.Answer.{refused}
 use Rattle.conduct.specs.Calls.Call.{read, constant, variable, copy, negate, add, subtract, multiply, divide, differentiate, substitute, truncate, multiply_truncate, write, equal, leading}
 use Rattle.conduct.specs.Formulas.{Stay, Becomes, Sets, Next}
 

@@ -11,7 +11,7 @@ use rings::{Domain, Ring};
 
 // Over a domain, for every format: canonical at every moment; one polynomial, one table, one deck; divides exactly when divisible.
 pub fn uses_over_domains<K: Domain>()
-    ensures { (vs : List VariableOf) → Sound vs → K.Ring.whole ≡ true → Promise K.Ring.kind quotient vs true }
+    ensures { (vs : List VariableOf) → Sound vs → K.Ring.whole ≡ true → Promise K.Ring.kind K.quotient vs true }
 {}
 
 // Over every kind, for uses without a division.

@@ -27,8 +27,8 @@ pub fn perform_domain<K: Domain>(
     call: DomainCall<'_>,
     output: &mut [u8],
 ) -> Answer<K>
-    ensures answer { answer_of result ≡ answer-in K.Ring.kind quotient (state sheet.old) (domain_call_of (length output.old) call.entry) }
-    ensures leaves { state sheet.new ≡ after K.Ring.kind quotient (state sheet.old) (domain_call_of (length output.old) call.entry) }
+    ensures answer { answer_of result ≡ answer-in K.Ring.kind K.quotient (state sheet.old) (domain_call_of (length output.old) call.entry) }
+    ensures leaves { state sheet.new ≡ after K.Ring.kind K.quotient (state sheet.old) (domain_call_of (length output.old) call.entry) }
     ensures output { output.new ≡ output_after K.Ring.kind (state sheet.old) (domain_call_of (length output.old) call.entry) output.old }
     ensures blank { Blank K.Ring.kind sheet.old → Blank K.Ring.kind sheet.new }
 {
@@ -46,10 +46,10 @@ pub fn run_domain<K: Domain>(
     output: &mut [u8],
 ) -> usize
     ensures count { result ≡ min (length calls.now) (length answers.old) }
-    ensures ran { Ran K.Ring.kind quotient (state sheet.old) (map (domain_call_of (length output.old)) (take result calls.now)) output.old (state sheet.new) (map answer_of (take result answers.new)) output.new }
+    ensures ran { Ran K.Ring.kind K.quotient (state sheet.old) (map (domain_call_of (length output.old)) (take result calls.now)) output.old (state sheet.new) (map answer_of (take result answers.new)) output.new }
     ensures others { drop result answers.new ≡ drop result answers.old }
     ensures blank { Blank K.Ring.kind sheet.old → Blank K.Ring.kind sheet.new }
-    ensures promise { (vs : List VariableOf) → Sound vs → K.Ring.whole ≡ true → Onward K.Ring.kind quotient vs true (state sheet.old) (map (domain_call_of (length output.old)) (take result calls.now)) (state sheet.new) }
+    ensures promise { (vs : List VariableOf) → Sound vs → K.Ring.whole ≡ true → Onward K.Ring.kind K.quotient vs true (state sheet.old) (map (domain_call_of (length output.old)) (take result calls.now)) (state sheet.new) }
 {
     let count = calls.len().min(answers.len());
     for i in 0..count {
