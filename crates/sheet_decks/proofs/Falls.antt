@@ -1,6 +1,6 @@
 -- A table whose keys fall still falls after a row is entered. Assumes nothing.
 --     entering_falls     the rows that are left by entering a row fall
-use Rattle.std.proofs.Common.{◌≡◌, ℕ, ◌<◌, cond, ltb, List, [], ◌∷◌, length, Ok, Err, Result, sym, ap, ◌∙◌, subst, ⊎_elim, arith}
+use Rattle.std.proofs.Common.{ℕ, ◌<◌, ltb, List, [], ◌∷◌, length, Ok, Err, Result, sym, subst, ⊎_elim}
 use Rattle.std.proofs.lemmas.Bool.{cases_lt, cond_both}
 use Rattle.refusals.specs.declared.Refusal.{Refusal}
 use Rattle.refusals.specs.declared.Refusal.TheVariants.{Rows}

@@ -1,4 +1,4 @@
-use Rattle.std.proofs.Common.{◌≡◌, length, get_or, take, ap, ◌∙◌, arith}
+use Rattle.std.proofs.Common.{length, get_or, take, ap, ◌∙◌, arith}
 use Rattle.std.proofs.lemmas.List.{length-append, take_all}
 use Rattle.texts.specs.Decks.{exponents, item}
 use Rattle.sheet_decks.proofs.Texts.{exponents-push}

@@ -1,6 +1,6 @@
-use Rattle.std.proofs.Common.{length, get_or, take, sym, ap, ◌∙◌, subst, arith}
+use Rattle.std.proofs.Common.{get_or, take, sym, subst}
 use Rattle.std.proofs.lemmas.List.{take_all}
-use Rattle.sheet_decks.specs.Bytes.{Fits, Wrote}
+use Rattle.sheet_decks.specs.Bytes.{Wrote}
 use Rattle.texts.specs.Decks.{exponents, item}
 use Rattle.sheet_decks.proofs.Texts.{wrote_none, wrote_next, fits-back, exponents-push, exponents-room}
 use Rattle.sheet_decks.proofs.exponents.put_exponents.Goals as goal

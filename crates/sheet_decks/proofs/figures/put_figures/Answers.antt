@@ -1,4 +1,4 @@
-use Rattle.std.proofs.Common.{◌≡◌, [], ◌∷◌, ◌++◌, sym, subst, w64, SFits, to_z, of_z, rules}
+use Rattle.std.proofs.Common.{[], ◌∷◌, ◌++◌, sym, subst, w64, SFits, to_z, of_z, rules}
 use Rattle.std.specs.Fmt.{signed_decimal}
 use Rattle.sheet_decks.specs.Bytes.{Fits, Wrote}
 use Rattle.sheet_decks.proofs.Texts.{figures_two, fits_front, fits-back, wrote_next}

@@ -12,25 +12,25 @@ use Rattle.sheet_decks.proofs.Falls.{entering_falls}
 use Rattle.sheet_decks.proofs.Turning.{entered_refused, entered_on}
 use Rattle.sheet_decks.proofs.terms.term.Goals as goal
 
-pub returns-in_err-at_byte : goal.returns-in_err-at_byte
-returns-in_err-at_byte g c =
+pub returns-in_err-at_byte-in-Whole : goal.returns-in_err-at_byte-in-Whole
+returns-in_err-at_byte-in-Whole g c =
     let K = g.K.Ring.kind in
     let s = c.args.sheet.now in
     let x = c.in-Whole.row in
     let b = c.in-Whole.first in
     let took = subst (λ vs. got_shown vs c.take.result ≡ taken K vs (partial_of vs c.args.partial) (number_of c.in-Some.number)) c.format-format.ensures c.take.ensures in
-    let p = err_from_is_err_and c.from-residual-in_err-at_byte.result c.from-residual-in_err-at_byte.ensures.1 in
+    let p = err_from_is_err_and c.from_residual-in_err-at_byte-in-Whole.result c.from_residual-in_err-at_byte-in-Whole.ensures.1 in
     record {
       answer = λ end go.
           ap (λ r. goes_on (state s).vars r (running c.enter.new.self) end go) (p.1 ∙ ap Err p.2)
-          ∙ sym (entered_refused K (state s) (running s) c.requires c.args.partial c.args.number c.in-Some.number c.in-Some.is c.take.result took x b (c.in_ok-partial.was ∙ ap Ok c.in-Whole.is) end go c.in_err-at_byte.field-0.0 (ap (λ a. faults.at_byte a b) (sym c.enter.ensures.answer) ∙ sym c.at_byte.ensures ∙ c.in_err-at_byte.was));
+          ∙ sym (entered_refused K (state s) (running s) c.requires c.args.partial c.args.number c.in-Some.number c.in-Some.is c.take.result took x b (c.in_ok-partial.was ∙ ap Ok c.in-Whole.is) end go c.in_err-at_byte-in-Whole.field-0.0 (ap (λ a. faults.at_byte a b) (sym c.enter.ensures.answer) ∙ sym c.at_byte.ensures ∙ c.in_err-at_byte-in-Whole.was));
       falling = subst Falling (sym c.enter.ensures.made) (entering_falls K (state s).room (running s) x c.requires);
       leaves = c.enter.ensures.leaves;
       neat = c.enter.ensures.neat;
     }
 
-pub returns-in_ok-at_byte : goal.returns-in_ok-at_byte
-returns-in_ok-at_byte g c =
+pub returns-in_ok-at_byte-in-Whole : goal.returns-in_ok-at_byte-in-Whole
+returns-in_ok-at_byte-in-Whole g c =
     let K = g.K.Ring.kind in
     let s = c.args.sheet.now in
     let x = c.in-Whole.row in
@@ -39,7 +39,7 @@ returns-in_ok-at_byte g c =
     record {
       answer = λ end go.
           ap (go none) c.enter.ensures.made
-          ∙ sym (entered_on K (state s) (running s) c.requires c.args.partial c.args.number c.in-Some.number c.in-Some.is c.take.result took x b (c.in_ok-partial.was ∙ ap Ok c.in-Whole.is) end go tt (ap (λ a. faults.at_byte a b) (sym c.enter.ensures.answer) ∙ sym c.at_byte.ensures ∙ c.in_ok-at_byte.was));
+          ∙ sym (entered_on K (state s) (running s) c.requires c.args.partial c.args.number c.in-Some.number c.in-Some.is c.take.result took x b (c.in_ok-partial.was ∙ ap Ok c.in-Whole.is) end go tt (ap (λ a. faults.at_byte a b) (sym c.enter.ensures.answer) ∙ sym c.at_byte.ensures ∙ c.in_ok-at_byte-in-Whole.was));
       falling = subst Falling (sym c.enter.ensures.made) (entering_falls K (state s).room (running s) x c.requires);
       leaves = c.enter.ensures.leaves;
       neat = c.enter.ensures.neat;
