@@ -11,10 +11,10 @@ use Rattle.arithmetic.specs.Dividing.{Over}
 use Rattle.algebra.specs.Tables.{Every}
 use Rattle.sheets.specs.Sheets.{State, opened}
 use Rattle.conduct.specs.Calls.{Call, Answer, divides, answer, after, after_all}
-use Rattle.conduct.specs.Uses.{Use, Allowed, Promise, left}
+use Rattle.conduct.specs.Uses.{Allowed, Promise, left}
 use Rattle.uses.specs.Answers.{answer_of}
 use Rattle.uses.specs.Performing.{plain_call_of, output_after}
-use Rattle.uses.specs.Runs.{answers_all, output_all, Ran, further, Onward}
+use Rattle.uses.specs.Runs.{answers_all, output_all, Ran, Onward}
 use Rattle.uses.specs.declared.call.Answer.{Answer as Told}
 use Rattle.uses.specs.declared.call.Call.{Call as Plain}
 use Rattle.uses.specs.declared.call.Call.TheVariants.{Read, Constant, Variable as Variable', Copied, Negate, Add, Subtract, Multiply, Differentiate, Substitute, Truncate, MultiplyTruncate, Write, Equal, Leading}
