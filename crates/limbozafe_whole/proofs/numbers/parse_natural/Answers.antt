@@ -1,7 +1,7 @@
 use Rattle.std.proofs.Common.{◌≡◌, ◌<◌, length, drop, None, sym, ◌∙◌, arith}
 use Rattle.std.proofs.lemmas.List.{at_drop_all}
 use Rattle.std.proofs.lemmas.Bool.{eqb-false}
-use Rattle.limbozafe_whole.specs.Numerals.{reads, natural}
+use Rattle.limbozafe_whole.specs.Numerals.{reads}
 use Rattle.limbozafe_whole.proofs.Digits.{natural-some, digit-more, low, high, large}
 use Rattle.limbozafe_whole.proofs.numbers.parse_natural.Goals as goal
 use Rattle.limbozafe_whole.proofs.numbers.parse_natural.Goals.{then-b-lt48-via-then-b-lt48, then-b-lt48-via-else-b-lt48+then-b-gt57}
