@@ -1,7 +1,7 @@
 -- The rule of the reciprocals, proved for all of 1 to 256 by one test that the checker computes. Assumes nothing.
 use Rattle.std.specs.Prelude.{◌≡◌, ℕ, ◌+◌, ◌-◌, ◌*◌, ◌%◌, ◌<◌, Bool, true, ◌&&◌, List, [], ◌∷◌, map, ◌==◌, slice_index, refl}
 use Rattle.std.proofs.Common.{sym, subst, ◌∙◌, arith}
-use Rattle.std.specs.List.{range_with_len, AllByRecursion as All}
+use Rattle.std.specs.List.{range_with_len, AllByRecursion}
 use Rattle.std.proofs.lemmas.Bool.{and_parts, eqb-true}
 use Rattle.std.proofs.ByRecursion.{All-get_or}
 use Rattle.std.proofs.lemmas.List.FromFn.{get_or-range_with_len, length-range_with_len, get_or-map-range_with_len}
@@ -12,7 +12,7 @@ abbrev passes : (ℕ → Bool) → List ℕ → Bool
 passes f [] = true
 passes f (x ∷ xs) = f x && passes f xs
 
-all_pass : (f : ℕ → Bool) (xs : List ℕ) → passes f xs ≡ true → All (λ x. f x ≡ true) xs
+all_pass : (f : ℕ → Bool) (xs : List ℕ) → passes f xs ≡ true → AllByRecursion (λ x. f x ≡ true) xs
 all_pass f [] e = tt
 all_pass f (x ∷ xs) e = let p = and_parts (f x) (passes f xs) e in (p.0, all_pass f xs p.1)
 
