@@ -1,5 +1,5 @@
 -- Performing a call.
---     plain_call_of n c               the call c as the promise speaks of it, where n bytes of output are lent
+--     plain_call_of n c         the call c as the promise speaks of it, where n bytes of output are lent
 --     domain_call_of n c        the same for a call that may be a division
 --     output_after K s c out    the output after the call c in the state s
 use Rattle.std.specs.Prelude.{ℕ, List}
