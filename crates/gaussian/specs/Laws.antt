@@ -1,4 +1,9 @@
 -- The Gaussian integers keep the laws of a kind, and their division answers as a domain's does. Assumes nothing.
+--     value_laws       the laws of values
+--     figure_laws      the laws of figures
+--     shares_decides   the test whether both parts divide decides it
+--     division_law     the law of a domain
+--     zero_answer      a divisor whose norm is zero is refused as zero
 use Rattle.std.specs.Prelude.{◌≡◌, ◌≤◌, Bool, true, false, cond, ◌&&◌, ℤ, pos, negsuc, Ok, Err, Decides, ◌≢◌, int_le, int_rem, nat_le, unsigned_abs, refl}
 use Rattle.std.proofs.Common.{sym, ap, subst, ◌∙◌, inr, ⊎_elim, arith}
 use Rattle.std.specs.Int.Signed.{le_z_yes}

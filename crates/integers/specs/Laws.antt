@@ -1,4 +1,11 @@
 -- The integers keep the laws of a kind, and their division answers as a domain's does. Assumes nothing.
+--     value_laws                the laws of values
+--     figure_laws               the laws of figures
+--     division_law              the law of a domain
+--     product_fits, small_fits  products and values lie within a signed word of 64 bits
+--     bits z                    the whole number z, taken to its word and back
+--     product_answer            a product of two such words is the product
+--     quotient_answer           a quotient of two such words, where none is left over, is the quotient
 use Rattle.std.specs.Prelude.{◌≡◌, ℕ, ◌≤◌, Bool, true, false, cond, ◌&&◌, ◌⊎◌, ℤ, pos, negsuc, ◌*ℤ◌, neg_ℤ, is_ok, Ok, Err, Result, FitsSigned, ◌≢◌, int_div, int_le, nat_le, unsigned_abs, refl}
 use Rattle.std.proofs.Common.{sym, ap, ◌∙◌, inl, inr, ⊎_elim, le_trans, mul-le-mul, arith, of_z, to_z}
 use Rattle.std.proofs.Math.Bool.{and-true, and-false}

@@ -1,4 +1,9 @@
 -- The residues keep the laws of a kind, and their division answers as a domain's does. Assumes nothing.
+--     residue_ring        the residues are a ring
+--     value_laws          the laws of values
+--     figure_laws         the laws of figures
+--     no_zero_divisors    nonzero residues have a nonzero product
+--     division_law        the law of a domain
 use Rattle.std.specs.Prelude.{◌≡◌, ℕ, ◌*◌, ◌%◌, ◌<◌, Bool, true, false, cond, Ok, Err, ◌==◌, refl}
 use Rattle.std.proofs.Common.{sym, ap, ◌∙◌, mod-lt, mul_assoc, mul-one, arith, lit<, lit≤}
 use Rattle.std.proofs.Math.Nat.{mod-mod}

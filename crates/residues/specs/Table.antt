@@ -1,4 +1,8 @@
 -- The rule of the reciprocals, proved for all of 1 to 256 by one test that the checker computes. Assumes nothing.
+--     passes f xs    whether the test f passes at each number of xs
+--     right n        whether n times its reciprocal leaves 1
+--     rule           it does, for each n from 1 to 256
+--     entry          the constant list in the source is that of the reciprocals
 use Rattle.std.specs.Prelude.{◌≡◌, ℕ, ◌+◌, ◌-◌, ◌*◌, ◌%◌, ◌<◌, Bool, true, ◌&&◌, List, [], ◌∷◌, map, ◌==◌, slice_index, refl}
 use Rattle.std.proofs.Common.{sym, subst, ◌∙◌, arith}
 use Rattle.std.specs.List.{range_with_len, AllByRecursion}

@@ -1,6 +1,6 @@
 -- A deck, card by card. Assumes nothing.
 --     unpacked        the exponents that a card shows
---     card-…          a card, part by part
+--     card…           a card, part by part
 --     Dealing         the cards of the rows before i are written
 --     dealing_none    none yet
 --     dealing_more    one more

@@ -2,7 +2,7 @@
 ghost use Rattle.std.specs.Prelude.{◌≡◌, ◌<◌, ◌≤◌, MatchResult};
 ghost use Rattle.refusals.specs.declared.Refusal.TheVariants.{Place};
 ghost use Rattle.formats.specs.Drafts.{variables};
-ghost use Rattle.tables.specs.Sheets.{state, room, count, place as place-rows, spanning};
+ghost use Rattle.tables.specs.Sheets.{state, room, count, place as place_rows, spanning};
 
 use crate::open::capacity_of;
 use crate::sheet::Sheet;
@@ -28,7 +28,7 @@ impl<K> Sheet<'_, K> {
 
     // The rows of a place.
     pub fn rows(&self, place: usize) -> Result<&[Row<K>], Refusal>
-        ensures { MatchResult result (λ x. (place < 8) × (x.now ≡ place-rows (state self.now) place)) (λ e. (8 ≤ place) × (e ≡ Place)) }
+        ensures { MatchResult result (λ x. (place < 8) × (x.now ≡ place_rows (state self.now) place)) (λ e. (8 ≤ place) × (e ≡ Place)) }
     {
         if place > 7 {
             return Err(Refusal::Place);

@@ -1,4 +1,7 @@
 -- The words keep the laws of a kind. Assumes nothing.
+--     word_ring      the words are a ring
+--     value_laws     the laws of values
+--     figure_laws    the laws of figures
 use Rattle.std.specs.Prelude.{refl}
 use Rattle.std.proofs.Common.{lit<, lit≤}
 use Rattle.rings.specs.Members.{RingLaws}
