@@ -12,7 +12,7 @@ use Rattle.rows.specs.declared.Row.{Row}
 use Rattle.algebra.specs.Polynomials.{nought}
 use Rattle.arithmetic.specs.Dividing.{Over}
 use Rattle.texts.specs.Numbers.{Fault}
-use Rattle.texts.specs.Reading.{Deck, read as read-text}
+use Rattle.texts.specs.Reading.{Deck, read as read_text}
 use Rattle.sheets.specs.Calls as call
 use Rattle.sheets.specs.Calls.{divided}
 use Rattle.sheets.specs.Promises.{Formulas}
@@ -36,7 +36,7 @@ module _ {V : Type 0} where
 
 module _ {V : Type 0} (K : Kind V) (over : Over V) where
   after-vars : (s : State V) (c : Call) → (after K over s c).vars ≡ s.vars
-  after-vars s (read r text) = read-vars s r (placed r) (read-text K s.vars s.room text)
+  after-vars s (read r text) = read-vars s r (placed r) (read_text K s.vars s.room text)
   after-vars s (constant r a b) = kept-vars s r (call.constant K s r a b)
   after-vars s (variable r v) = kept-vars s r (call.variable K s r v)
   after-vars s (copy r p) = kept-vars s r (call.copied s r p)

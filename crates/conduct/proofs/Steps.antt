@@ -31,7 +31,7 @@ use Rattle.arithmetic.specs.Quotients.{Divided, Quotients}
 use Rattle.arithmetic.specs.Substituting.{substituted}
 use Rattle.arithmetic.specs.Theorems.{Gives, TableArithmetic}
 use Rattle.texts.specs.Numbers.{Fault}
-use Rattle.texts.specs.Reading.{Deck, read as read-text, dealt}
+use Rattle.texts.specs.Reading.{Deck, read as read_text, dealt}
 use Rattle.texts.specs.Theorems.{DecksOfTables}
 use Rattle.sheets.specs.Calls as call
 use Rattle.sheets.specs.Calls.{both_placed, all_placed, constant_rows, variable_rows, divided}
@@ -175,7 +175,7 @@ module _ {V : Type 0} (K : Kind V) (over : Over V) (vs : List Variable) (may : B
           let deck : ◌≡◌ {A = Deck (List (Row V))} (record { bytes = k.0; table = k.1 }) (record { bytes = n; table = ts }) = cc in
           becomes_agree K vs f g r (meant K vs k.1) (meant K vs ts) (λ x l. ap (λ d. meant K vs d.table x) deck) k.3
 
-  read_steps : (r : ℕ) (text : List ℕ) (t : Bool) (a : Result (Deck (List (Row V))) Fault) → read-text K vs c text ≡ a → Steps K vs (read r text) f (cond t (read_answer a) (refused Place)) (cond t (read_leaves s r a) s).places
+  read_steps : (r : ℕ) (text : List ℕ) (t : Bool) (a : Result (Deck (List (Row V))) Fault) → read_text K vs c text ≡ a → Steps K vs (read r text) f (cond t (read_answer a) (refused Place)) (cond t (read_leaves s r a) s).places
   read_steps r text true (Ok d) e = let m = decks.terms c d.bytes text d.table e in entered K vs s f h (read r text) r d.table (read_makes r text d.bytes d.table m.0 m.1 m.2)
   read_steps r text true (Err x) e = refused_steps K vs s f h
   read_steps r text false a e = refused_steps K vs s f h
@@ -225,7 +225,7 @@ module _ {V : Type 0} (K : Kind V) (over : Over V) (vs : List Variable) (may : B
 
   -- ---- each call
   pub step : (call : Call) → (divides call ≡ true → may ≡ true) → Goes call
-  step (read r text) d = read_steps r text (placed r) (read-text K vs c text) refl
+  step (read r text) d = read_steps r text (placed r) (read_text K vs c text) refl
   step (constant r a b) d =
       changed K vs s f h (constant r a b) r (call.constant K s r a b)
       (λ xs t. constant_makes r a b xs (K.make a b) refl (when (placed r) (constant_rows K s (K.make a b)) Place xs t).1)

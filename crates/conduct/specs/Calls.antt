@@ -17,7 +17,7 @@ use Rattle.rows.specs.declared.Row.{Row}
 use Rattle.arithmetic.specs.Dividing.{Over}
 use Rattle.texts.specs.Decks.{deck}
 use Rattle.texts.specs.Numbers.{Fault}
-use Rattle.texts.specs.Reading.{Deck, read as read-text}
+use Rattle.texts.specs.Reading.{Deck, read as read_text}
 use Rattle.sheets.specs.Calls as call
 use Rattle.sheets.specs.Sheets.{State, placed, kept, stored}
 
@@ -98,7 +98,7 @@ cards K s p = deck K s.vars (s.places p)
 
 module _ {V : Type 0} (K : Kind V) (over : Over V) (s : State V) where
   abbrev pub answer : Call → Answer V
-  answer (read r text) = cond (placed r) (read_answer (read-text K s.vars s.room text)) (refused Place)
+  answer (read r text) = cond (placed r) (read_answer (read_text K s.vars s.room text)) (refused Place)
   answer (constant r a b) = changing (call.constant K s r a b)
   answer (variable r v) = changing (call.variable K s r v)
   answer (copy r p) = changing (call.copied s r p)
@@ -116,7 +116,7 @@ module _ {V : Type 0} (K : Kind V) (over : Over V) (s : State V) where
   answer (leading p) = leads (call.leading_answer s p)
 
   abbrev pub after : Call → State V
-  after (read r text) = cond (placed r) (read_leaves s r (read-text K s.vars s.room text)) s
+  after (read r text) = cond (placed r) (read_leaves s r (read_text K s.vars s.room text)) s
   after (constant r a b) = kept s r (call.constant K s r a b)
   after (variable r v) = kept s r (call.variable K s r v)
   after (copy r p) = kept s r (call.copied s r p)

@@ -3,7 +3,7 @@ ghost use Rattle.std.specs.Prelude.{◌≡◌, min, true, List, map, length, tak
 ghost use Rattle.formats.specs.Drafts.{Sound};
 ghost use Rattle.formats.specs.declared.variable.Variable.{Variable as VariableOf};
 ghost use Rattle.sheets.specs.Sheets.{state, Blank};
-ghost use Rattle.conduct.specs.Calls.{answer as answer-in, after};
+ghost use Rattle.conduct.specs.Calls.{answer as answer_in, after};
 ghost use Rattle.uses.specs.Answers.{answer_of};
 ghost use Rattle.uses.specs.Performing.{domain_call_of, output_after};
 ghost use Rattle.uses.specs.Runs.{Ran, Onward};
@@ -27,7 +27,7 @@ pub fn perform_domain<K: Domain>(
     call: DomainCall<'_>,
     output: &mut [u8],
 ) -> Answer<K>
-    ensures answer { answer_of result ≡ answer-in K.Ring.kind K.quotient (state sheet.old) (domain_call_of (length output.old) call.entry) }
+    ensures answer { answer_of result ≡ answer_in K.Ring.kind K.quotient (state sheet.old) (domain_call_of (length output.old) call.entry) }
     ensures leaves { state sheet.new ≡ after K.Ring.kind K.quotient (state sheet.old) (domain_call_of (length output.old) call.entry) }
     ensures output { output.new ≡ output_after K.Ring.kind (state sheet.old) (domain_call_of (length output.old) call.entry) output.old }
     ensures blank { Blank K.Ring.kind sheet.old → Blank K.Ring.kind sheet.new }

@@ -2,7 +2,7 @@
 ghost use Rattle.std.specs.Prelude.{◌≡◌, length};
 ghost use Rattle.arithmetic.specs.Dividing.{Over};
 ghost use Rattle.sheets.specs.Sheets.{state, Blank};
-ghost use Rattle.conduct.specs.Calls.{answer as answer-in, after};
+ghost use Rattle.conduct.specs.Calls.{answer as answer_in, after};
 ghost use Rattle.uses.specs.Answers.{answer_of};
 ghost use Rattle.uses.specs.Performing.{plain_call_of, output_after};
 
@@ -14,7 +14,7 @@ use sheets::Sheet;
 
 // Performs a call on a sheet.
 pub fn perform<K: Ring>(sheet: &mut Sheet<'_, K>, call: Call<'_>, output: &mut [u8]) -> Answer<K>
-    ensures answer { (over : Over K) → answer_of result ≡ answer-in K.kind over (state sheet.old) (plain_call_of (length output.old) call.entry) }
+    ensures answer { (over : Over K) → answer_of result ≡ answer_in K.kind over (state sheet.old) (plain_call_of (length output.old) call.entry) }
     ensures leaves { (over : Over K) → state sheet.new ≡ after K.kind over (state sheet.old) (plain_call_of (length output.old) call.entry) }
     ensures output { output.new ≡ output_after K.kind (state sheet.old) (plain_call_of (length output.old) call.entry) output.old }
     ensures blank { Blank K.kind sheet.old → Blank K.kind sheet.new }
