@@ -18,7 +18,7 @@ use Rattle.rows.specs.Lists.{put, part, Apart}
 use Rattle.rows.specs.Tables.{blank, limited, counted}
 use Rattle.rows.specs.declared.Row.{Row}
 use Rattle.rows.proofs.Writing.{length_put, put_next, put-over, put-push}
-use Rattle.areas.specs.Areas.{capacity, storing, answered, rows_of, pushed, apart as apart-test}
+use Rattle.areas.specs.Areas.{capacity, storing, answered, rows_of, pushed, apart as apart_test}
 use Rattle.areas.specs.Merging.{spanned, Mergeable, Filled}
 use Rattle.areas.specs.declared.span.Span.{Span}
 use Rattle.areas.proofs.Shares.{area_end, areas_apart}
@@ -30,7 +30,7 @@ pub record Leaves {V : Type 0} (K : Kind V) (rows : List (Row V)) (counts : List
   pub tidy : TidyOf K rows counts → TidyOf K new cs
 
 -- areas that are apart
-pub apart_parts : (t a b : ℕ) → apart-test t a b ≡ true → (t < 12) × (a < 12) × (b < 12) × (t ≡ a → ⊥) × (t ≡ b → ⊥)
+pub apart_parts : (t a b : ℕ) → apart_test t a b ≡ true → (t < 12) × (a < 12) × (b < 12) × (t ≡ a → ⊥) × (t ≡ b → ⊥)
 apart_parts t a b h =
     let p = and_parts (ltb t 12 && (ltb a 12 && ltb b 12)) (not (eqb t a) && not (eqb t b)) h in
     let q = and_parts (ltb t 12) (ltb a 12 && ltb b 12) p.0 in

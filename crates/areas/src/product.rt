@@ -1,6 +1,6 @@
 // A row times a factor.
 ghost use Rattle.std.specs.Prelude.{◌≡◌};
-ghost use Rattle.areas.specs.Merging.{nonzero as row-unless-zero, product as product-of};
+ghost use Rattle.areas.specs.Merging.{nonzero as row_unless_zero, product as product_of};
 
 use refusals::Refusal;
 use rings::Ring;
@@ -8,7 +8,7 @@ use rows::Row;
 
 // The row of a key and a coefficient; none if the coefficient is zero.
 pub(crate) fn nonzero<K: Ring>(key: u64, coefficient: K) -> Option<Row<K>>
-    ensures { result ≡ row-unless-zero K.kind key coefficient }
+    ensures { result ≡ row_unless_zero K.kind key coefficient }
 {
     if coefficient.is_zero() {
         None
@@ -22,7 +22,7 @@ pub(crate) fn product<K: Ring>(
     row: Row<K>,
     factor: Option<Row<K>>,
 ) -> Result<Option<Row<K>>, Refusal>
-    ensures { result ≡ product-of K.kind factor row }
+    ensures { result ≡ product_of K.kind factor row }
 {
     match factor {
         Some(by) => {

@@ -13,7 +13,7 @@ use Rattle.algebra.specs.Tables.{CanonicalRows}
 use Rattle.algebra.proofs.Products.{product_term, product-term-none}
 use Rattle.algebra.proofs.Splits.{zero-times}
 use Rattle.algebra.proofs.Truncating.{truncating}
-use Rattle.arithmetic.specs.Multiplying.{product as product-rows}
+use Rattle.arithmetic.specs.Multiplying.{product as product_rows}
 use Rattle.arithmetic.specs.Refusals.{NoProduct, every, lowest}
 use Rattle.arithmetic.specs.Theorems.{Gives}
 use Rattle.arithmetic.specs.Truncating.{low, near, product_truncated}
@@ -71,7 +71,7 @@ module _ {V : Type 0} (K : Kind V) (ring : RingLaws K.ops) (vs : List Variable) 
     }
 
 module _ {V : Type 0} (K : Kind V) (ring : RingLaws K.ops) (laws : ValueLaws K) (vs : List Variable) (few : bits vs ≤ 64) (c : ℕ) where
-  pub products : (p q : Poly K.ops) (xs ys : List (Row V)) → CanonicalRows K vs p xs → CanonicalRows K vs q ys → Gives K vs (product K.ops p q) (NoProduct K (every K.ops) vs c p q) (product-rows K vs c xs ys)
+  pub products : (p q : Poly K.ops) (xs ys : List (Row V)) → CanonicalRows K vs p xs → CanonicalRows K vs q ys → Gives K vs (product K.ops p q) (NoProduct K (every K.ops) vs c p q) (product_rows K vs c xs ys)
   products p q xs ys hp hq = multiplied_gives K ring laws vs few c (every K.ops) p q (λ _. xs) (every_pairs K ring vs p xs hp) ys hq
 
   pub truncated_products : (k n : ℕ) (p q : Poly K.ops) (xs ys : List (Row V)) → CanonicalRows K vs p xs → CanonicalRows K vs q ys → Gives K vs (truncation K.ops k n (product K.ops p q)) (NoProduct K (lowest K.ops k n) vs c p q) (product_truncated K vs c k n xs ys)

@@ -17,7 +17,7 @@ use Rattle.algebra.specs.Tables.{Every, Falling, Term, CanonicalRows}
 use Rattle.algebra.proofs.Exponents.{alike_true}
 use Rattle.algebra.proofs.Products.{term_here, product_assoc, product_one}
 use Rattle.algebra.proofs.Substituting.{substituting, substitution_agree, substitution-nought, substitution-term}
-use Rattle.arithmetic.specs.Multiplying.{product as product-rows}
+use Rattle.arithmetic.specs.Multiplying.{product as product_rows}
 use Rattle.arithmetic.specs.Refusals.{TooLarge, NoProduct, NoSubstitution, every, upto}
 use Rattle.arithmetic.specs.Substituting.{raised, term_raised, substituted}
 use Rattle.arithmetic.specs.Theorems.{Gives}
@@ -47,7 +47,7 @@ module _ {V : Type 0} (K : Kind V) (ring : RingLaws K.ops) (vs : List Variable) 
 
 module _ {V : Type 0} (K : Kind V) (ring : RingLaws K.ops) (vs : List Variable) (c : ℕ)
     (sums : (p q : Poly K.ops) (xs ys : List (Row V)) → CanonicalRows K vs p xs → CanonicalRows K vs q ys → Gives K vs (plus K.ops p q) (TooLarge K vs c (plus K.ops p q)) (limited c (sum K xs ys)))
-    (products : (p q : Poly K.ops) (xs ys : List (Row V)) → CanonicalRows K vs p xs → CanonicalRows K vs q ys → Gives K vs (product K.ops p q) (NoProduct K (every K.ops) vs c p q) (product-rows K vs c xs ys)) where
+    (products : (p q : Poly K.ops) (xs ys : List (Row V)) → CanonicalRows K vs p xs → CanonicalRows K vs q ys → Gives K vs (product K.ops p q) (NoProduct K (every K.ops) vs c p q) (product_rows K vs c xs ys)) where
   module _ (v B : ℕ) (p q : Poly K.ops) (ys : List (Row V)) (here : v < length vs) (bounded : Bounded K.ops (length vs) B p) (hq : CanonicalRows K vs q ys) where
     abbrev S : Poly K.ops → Poly K.ops
     S P = substitution K.ops v B P q
@@ -66,10 +66,10 @@ module _ {V : Type 0} (K : Kind V) (ring : RingLaws K.ops) (vs : List Variable) 
     unfolding power
     raise a ts h zero = h
     raise a ts h (suc i) =
-        continued_gives K vs (partial a i) (partial a (suc i)) (NoPower a i) (NoPower a (suc i)) (λ us. product-rows K vs c us ys)
+        continued_gives K vs (partial a i) (partial a (suc i)) (NoPower a i) (NoPower a (suc i)) (λ us. product_rows K vs c us ys)
         (λ us g. gives_weaker K vs (product K.ops (partial a i) q) (partial a (suc i)) (NoProduct K (every K.ops) vs c (partial a i) q) (NoPower a (suc i))
         (λ e l. ap (λ r. r e) (product_assoc K.ops ring (term K.ops (placed v 0 a) (p a)) (power K.ops q i) q))
-        (λ e n. (i, omega arith, n)) (product-rows K vs c us ys) (products (partial a i) q us ys g hq))
+        (λ e n. (i, omega arith, n)) (product_rows K vs c us ys) (products (partial a i) q us ys g hq))
         (λ e n. let l = n.1 in (n.0, omega arith, n.2))
         (raised K vs c ys ts i) (raise a ts h i)
 

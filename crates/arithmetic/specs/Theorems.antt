@@ -11,7 +11,7 @@ use Rattle.rows.specs.declared.Row.{Row}
 use Rattle.algebra.specs.Polynomials.{Poly, Bounded, sum as plus, negative, product, derivative, truncation, substitution}
 use Rattle.algebra.specs.Tables.{CanonicalRows}
 use Rattle.arithmetic.specs.Negating.{negated, subtracted}
-use Rattle.arithmetic.specs.Multiplying.{product as product-rows}
+use Rattle.arithmetic.specs.Multiplying.{product as product_rows}
 use Rattle.arithmetic.specs.Truncating.{truncated, product_truncated}
 use Rattle.arithmetic.specs.Deriving.{derived}
 use Rattle.arithmetic.specs.Substituting.{substituted}
@@ -29,7 +29,7 @@ module _ {V : Type 0} (K : Kind V) (vs : List Variable) (c : ℕ) where
     pub sums : (p q : Poly K.ops) (xs ys : List (Row V)) → Has p xs → Has q ys → Gives K vs (plus K.ops p q) (TooLarge K vs c (plus K.ops p q)) (limited c (sum K xs ys))
     pub negatives : (p : Poly K.ops) (xs : List (Row V)) → Has p xs → Gives K vs (negative K.ops p) (λ _. ⊥) (negated K xs)
     pub differences : (p q : Poly K.ops) (xs ys : List (Row V)) → Has p xs → Has q ys → Gives K vs (plus K.ops p (negative K.ops q)) (TooLarge K vs c (plus K.ops p (negative K.ops q))) (limited c (subtracted K xs ys))
-    pub products : (p q : Poly K.ops) (xs ys : List (Row V)) → Has p xs → Has q ys → Gives K vs (product K.ops p q) (NoProduct K (every K.ops) vs c p q) (product-rows K vs c xs ys)
+    pub products : (p q : Poly K.ops) (xs ys : List (Row V)) → Has p xs → Has q ys → Gives K vs (product K.ops p q) (NoProduct K (every K.ops) vs c p q) (product_rows K vs c xs ys)
     pub truncations : (k n : ℕ) (p : Poly K.ops) (xs : List (Row V)) → Has p xs → Has (truncation K.ops k n p) (truncated vs k n xs)
     pub truncated_products : (k n : ℕ) (p q : Poly K.ops) (xs ys : List (Row V)) → Has p xs → Has q ys → Gives K vs (truncation K.ops k n (product K.ops p q)) (NoProduct K (lowest K.ops k n) vs c p q) (product_truncated K vs c k n xs ys)
     pub derivatives : (v : ℕ) (p : Poly K.ops) (xs : List (Row V)) → v < length vs → Has p xs → Gives K vs (derivative K.ops v p) (λ e. (e ≡ Unfit) × Unfitting K vs (derivative K.ops v p)) (derived K vs v xs)

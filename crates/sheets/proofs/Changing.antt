@@ -23,7 +23,7 @@ use Rattle.formats.specs.declared.variable.Variable.{Variable}
 use Rattle.rows.specs.Tables.{row, consed, both, limited}
 use Rattle.rows.specs.declared.Row.{Row}
 use Rattle.algebra.proofs.Packing.{length_unpack, within-unpack}
-use Rattle.arithmetic.specs.Truncating.{low as low-list, truncated}
+use Rattle.arithmetic.specs.Truncating.{low as low_list, truncated}
 use Rattle.arithmetic.specs.Deriving.{power_of, with_power, derived}
 use Rattle.arithmetic.proofs.Derived.{within_lower}
 use Rattle.areas.specs.Areas.{Contents, contents, lent_room, count, storing, pushed, kept as held, Tidy}
@@ -59,7 +59,7 @@ module _ {V : Type 0} (K : Kind V) (vs : List Variable) where
   truncated-rows k n [] = refl
   truncated-rows k n (x ∷ xs) =
       let again = truncated-rows k n xs in
-      let t = low-list k n (unpack vs x.key) in
+      let t = low_list k n (unpack vs x.key) in
       ⊎_elim
       (λ h. ap (λ o. before (Ok o) (changed K vs (Truncate k n) xs)) (cond-true t (Some x) None h) ∙ ap (consed x) again ∙ ap Ok (sym (cond-true t _ _ h)))
       (λ h. ap (λ o. before (Ok o) (changed K vs (Truncate k n) xs)) (cond-false t (Some x) None h) ∙ again ∙ ap Ok (sym (cond-false t _ _ h)))

@@ -2,7 +2,7 @@
 ghost use Rattle.std.specs.Prelude.{◌≡◌, ◌<◌, true};
 ghost use Rattle.formats.specs.Drafts.{variables};
 ghost use Rattle.areas.specs.Areas.{answered};
-ghost use Rattle.arithmetic.specs.Dividing.{opposed, leading as leading-quotient, quotient as quotient-rows};
+ghost use Rattle.arithmetic.specs.Dividing.{opposed, leading as leading_quotient, quotient as quotient_rows};
 ghost use Rattle.sheets.specs.Sheets.{state, kept, Blank};
 ghost use Rattle.sheets.specs.Calls.{divided};
 ghost use Rattle.sheets.specs.Ends.{Making};
@@ -19,7 +19,7 @@ use rows::Row;
 
 // The row whose product with `by` is `row`.
 fn quotient_row<K: Domain>(format: &Format, row: Row<K>, by: Row<K>) -> Result<Row<K>, Refusal>
-    ensures { result ≡ leading-quotient K.quotient (variables format.now) row by }
+    ensures { result ≡ leading_quotient K.quotient (variables format.now) row by }
 {
     let Some(key) = format.difference(row.key, by.key) else {
         return Err(Refusal::NoQuotient);
@@ -43,7 +43,7 @@ impl<K: Domain> Sheet<'_, K> {
     pub(crate) fn quotient_in(&mut self, left: usize, right: usize) -> Result<usize, Refusal>
         requires left { left < 8 }
         requires right { right < 8 }
-        ensures { Making K.Ring.kind 8 self.old self.new (quotient-rows K.Ring.kind K.quotient (state self.old).vars (state self.old).room (table self.old left) (table self.old right)) result }
+        ensures { Making K.Ring.kind 8 self.old self.new (quotient_rows K.Ring.kind K.quotient (state self.old).vars (state self.old).room (table self.old left) (table self.old right)) result }
     {
         let Some(by) = first_row(self.areas.table(right)) else {
             return Err(Refusal::ZeroDivisor);

@@ -1,7 +1,7 @@
 // The rows of a table that make products of low degree with a row.
 ghost use Rattle.std.specs.Prelude.{◌≡◌, ◌+◌, ◌<◌, take, nat_le};
 ghost use Rattle.formats.specs.Drafts.{variables};
-ghost use Rattle.formats.specs.Exponents.{degree as degree-of};
+ghost use Rattle.formats.specs.Exponents.{degree as degree_of};
 ghost use Rattle.formats.specs.Keys.{unpack};
 ghost use Rattle.arithmetic.specs.Truncating.{near};
 ghost use Rattle.sheets.specs.Sheets.{state};
@@ -14,7 +14,7 @@ use rows::Row;
 
 // Whether the first `count` exponents of a key make at most `most` together with `degree`.
 fn is_low(format: &Format, key: u64, degree: u32, count: usize, most: u32) -> bool
-    ensures { result ≡ nat_le (degree-of (take count (unpack (variables format.now) key)) + degree) most }
+    ensures { result ≡ nat_le (degree_of (take count (unpack (variables format.now) key)) + degree) most }
 {
     format.degree(key, count) as u64 + degree as u64 <= most as u64
 }

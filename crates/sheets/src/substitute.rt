@@ -4,7 +4,7 @@ ghost use Rattle.rows.specs.Products.{continued};
 ghost use Rattle.rows.specs.Tables.{row as row_of, sum, limited};
 ghost use Rattle.areas.specs.Areas.{answered};
 ghost use Rattle.arithmetic.specs.Deriving.{with_power};
-ghost use Rattle.arithmetic.specs.Substituting.{raised, term_raised, substituted as substituted-rows};
+ghost use Rattle.arithmetic.specs.Substituting.{raised, term_raised, substituted as substituted_rows};
 ghost use Rattle.sheets.specs.Sheets.{state, kept, Blank};
 ghost use Rattle.sheets.specs.Calls.{substituted};
 ghost use Rattle.sheets.specs.Ends.{made_in, Making};
@@ -71,7 +71,7 @@ impl<K: Ring> Sheet<'_, K> {
         requires left { left < 8 }
         requires right { right < 8 }
         requires variable { variable < length (state self.old).vars }
-        ensures { Making K.kind 8 self.old self.new (substituted-rows K.kind (state self.old).vars (state self.old).room variable (table self.old right) [] (table self.old left)) result }
+        ensures { Making K.kind 8 self.old self.new (substituted_rows K.kind (state self.old).vars (state self.old).room variable (table self.old right) [] (table self.old left)) result }
     {
         self.areas.clear(8);
         for i in 0..self.areas.table(left).len() {

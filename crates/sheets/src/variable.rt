@@ -3,7 +3,7 @@ ghost use Rattle.std.specs.Prelude.{◌≡◌, [], ◌∷◌, Ok};
 ghost use Rattle.rows.specs.Tables.{row, limited};
 ghost use Rattle.areas.specs.Areas.{answered};
 ghost use Rattle.sheets.specs.Sheets.{state, kept, Blank};
-ghost use Rattle.sheets.specs.Calls.{variable as variable-table};
+ghost use Rattle.sheets.specs.Calls.{variable as variable_table};
 ghost use Rattle.sheets.specs.Ends.{Making};
 ghost use Rattle.sheets.specs.Promises.{VariableOf};
 
@@ -24,8 +24,8 @@ impl<K: Ring> Sheet<'_, K> {
 
     // Makes a variable of the format, by its number, the rows of a place.
     pub fn variable(&mut self, res: usize, variable: usize) -> Result<(), Refusal>
-        ensures answer { result ≡ answered (variable-table K.kind (state self.old) res variable) }
-        ensures leaves { state self.new ≡ kept (state self.old) res (variable-table K.kind (state self.old) res variable) }
+        ensures answer { result ≡ answered (variable_table K.kind (state self.old) res variable) }
+        ensures leaves { state self.new ≡ kept (state self.old) res (variable_table K.kind (state self.old) res variable) }
         ensures blank { Blank K.kind self.old → Blank K.kind self.new }
         ensures algebra { VariableOf K.kind (state self.old) (state self.new) result res variable }
     {

@@ -21,7 +21,7 @@ use Rattle.algebra.specs.Tables.{Every}
 use Rattle.algebra.proofs.Packing.{length_unpack, within-unpack, pack-back}
 use Rattle.texts.specs.Decks.{figures, exponents, card, ending, deck}
 use Rattle.texts.specs.Numbers.{Fault, fresh}
-use Rattle.texts.specs.Numbers.Mode.{between, within as under-way}
+use Rattle.texts.specs.Numbers.Mode.{between, within as under_way}
 use Rattle.texts.specs.Terms.{Partial, coefficient, width_after, gathered, taken}
 use Rattle.texts.specs.Terms.Partial.{none, figure, powers}
 use Rattle.texts.specs.Reading.{Deck, Entering, through, at_byte, with_got, reading, adding, read}
@@ -62,7 +62,7 @@ module _ {S V : Type 0} (K : Kind V) (vs : List Variable) (enter : Entering S V)
     some : Bool
     comma : Option ℕ
     begins : ℕ
-    reads : reading K vs enter fresh none st i (figures K v ++ rest) ≡ reading K vs enter (on (length (figures K v)) (under-way (written last from)) some comma) so_far st (i + length (figures K v)) rest
+    reads : reading K vs enter fresh none st i (figures K v ++ rest) ≡ reading K vs enter (on (length (figures K v)) (under_way (written last from)) some comma) so_far st (i + length (figures K v)) rest
     gives : taken K vs so_far (number last from) ≡ coefficient K begins (Ok v)
 
   module _ (writing : FigureLaws K) (v : V) (value : IsValue K v) (i : ℕ) (rest : List ℕ) where
@@ -87,7 +87,7 @@ module _ {S V : Type 0} (K : Kind V) (vs : List Variable) (enter : Entering S V)
           reads =
               ap (λ w. reading K vs enter fresh none st i (w ++ rest)) (figures-one K writing v value c)
               ∙ number_read K vs enter none st a 18 0 false None i rest (omega arith) (omega arith) c.2 (omega arith)
-              ∙ (λ j. reading K vs enter (on (shift j) (under-way (written a i)) false None) none st (i + sym l j) rest);
+              ∙ (λ j. reading K vs enter (on (shift j) (under_way (written a i)) false None) none st (i + sym l j) rest);
           gives = cond-true (eqb K.count 1) _ _ (eq-eqb K.count 1 c.0) ∙ ap (coefficient K i) (ap (K.make a) (sym c.1) ∙ writing.again v ∙ value);
         }
 
@@ -112,7 +112,7 @@ module _ {S V : Type 0} (K : Kind V) (vs : List Variable) (enter : Entering S V)
               ∙ comma-read K vs enter none st a i (0 + m) false None (i + m) (signed_decimal b ++ rest) (omega arith)
               ∙ ap (λ r. with_got enter st (i + m + through (44 ∷ signed_decimal b ++ rest)) r (λ u s. reading K vs enter (on (0 + m + 1) between false (Some (i + m))) u s (suc (i + m)) (signed_decimal b ++ rest))) (cond-false (eqb K.count 1) _ _ (ap (λ n. eqb n 1) c.0))
               ∙ number_read K vs enter (figure a i) st b 16 (0 + m + 1) false (Some (i + m)) (suc (i + m)) rest (omega arith) (omega arith) c.2 (omega arith)
-              ∙ (λ j. reading K vs enter (on (columns j) (under-way (written b (suc (i + m)))) false (Some (i + m))) (figure a i) st (bytes j) rest);
+              ∙ (λ j. reading K vs enter (on (columns j) (under_way (written b (suc (i + m)))) false (Some (i + m))) (figure a i) st (bytes j) rest);
           gives = ap (coefficient K i) (writing.again v ∙ value);
         }
 

@@ -1,6 +1,6 @@
 use Rattle.std.proofs.Common.{◌≡◌, sym, refl, ◌∙◌, subst, arith}
 use Rattle.rows.specs.Tables.{sum, limited}
-use Rattle.areas.specs.Areas.{contents, added as added-areas}
+use Rattle.areas.specs.Areas.{contents, added as added_areas}
 use Rattle.std.proofs.lemmas.Bool.{cond-true}
 use Rattle.sheets.specs.Sheets.{state}
 use Rattle.sheets.specs.Calls.{limit}
@@ -19,8 +19,8 @@ returns g c =
     let t = with_areas s c.add.new.self in
     let u = c.finish.new.self in
     let a = limit (state s) (sum K ((state s).places p) ((state s).places q)) in
-    let same : added-areas K (contents s.areas) 8 p q ≡ a = cond-true _ _ _ (apart_areas 8 p q (omega arith) (omega arith) (omega arith) (λ x. omega arith) (λ x. omega arith)) ∙ (λ i. limited (state s).room (sum K (sym (place-table s p (omega arith)) i) (sym (place-table s q (omega arith)) i))) in
-    let m = passed K 8 8 s t (added-areas K (contents s.areas) 8 p q) c.add.result c.made_in-made.result (omega arith) (omega arith) c.add.ensures.leaves refl c.add.ensures.tidy c.add.ensures.answer c.made_in-made.ensures in
+    let same : added_areas K (contents s.areas) 8 p q ≡ a = cond-true _ _ _ (apart_areas 8 p q (omega arith) (omega arith) (omega arith) (λ x. omega arith) (λ x. omega arith)) ∙ (λ i. limited (state s).room (sum K (sym (place-table s p (omega arith)) i) (sym (place-table s q (omega arith)) i))) in
+    let m = passed K 8 8 s t (added_areas K (contents s.areas) 8 p q) c.add.result c.made_in-made.result (omega arith) (omega arith) c.add.ensures.leaves refl c.add.ensures.tidy c.add.ensures.answer c.made_in-made.ensures in
     let e = ends K s 8 (omega arith) t u r a c.made_in-made.result c.finish.result (subst (λ x. Making K 8 s t x c.made_in-made.result) same m) c.finish.ensures.answer c.finish.ensures.leaves c.finish.ensures.blank in
     let w = tested K s u r a c.finish.result _ (three_placed r p q (omega arith) (omega arith) (omega arith)) e in
     record {
