@@ -3,4 +3,5 @@ pub mod Passes
 pub mod Steps
 pub mod Merges
 pub mod Storing
+pub mod Same
 pub mod Ends

@@ -1,33 +1,30 @@
--- A turn of each pass over rows. Assumes nothing.
---     blanked_more     one blank row more
---     copied_more      one copied row more
-use Rattle.std.proofs.Common.{◌≡◌, ℕ, ◌+◌, ◌<◌, ◌≤◌, List, [], ◌∷◌, ◌++◌, length, get_or, drop, set, replicate, sym, ap, ◌∙◌, ⊎_elim, arith}
-use Rattle.std.proofs.lemmas.List.{length-replicate, replicate_more, length-take-le, length-drop, take_more, get_or-drop}
-use Rattle.rows.specs.Lists.{put, part, Apart}
-use Rattle.rows.proofs.Writing.{put-push, get_or-put_before, get_or-put_after}
+-- What the passes over rows leave and read. Assumes nothing.
+--     filled_with      a call that gives the same at each place
+--     length_part      the length of a part
+--     copied           a part copied to another place
+--     part-past        a part past two lists, of three one after another
+use Rattle.std.proofs.Common.{◌≡◌, ℕ, ◌+◌, ◌-◌, ◌≤◌, List, [], ◌∷◌, ◌++◌, length, take, drop, replicate, refl, sym, ap, ◌∙◌, arith}
+use Rattle.std.specs.List.{FoldsTo, copy_within}
+use Rattle.std.proofs.lemmas.List.{length-append, length-take-le, length-drop, append_assoc, drop_at, drop-drop}
+use Rattle.rows.specs.Lists.{part, put}
 
-module _ {X : Type 0} (old : List X) (at : ℕ) where
-  -- one row more of a run of equal ones
-  pub blanked_more : (i : ℕ) (b x : X) (new : List X) → new ≡ put old at (replicate i b) → x ≡ b → at + i < length old → set new (at + i) x ≡ put old at (replicate (i + 1) b)
-  blanked_more i b x new inv is h =
-      let n = length-replicate i b in
-      let place : at + length (replicate i b) ≡ at + i = ap (λ m. at + m) n in
-      ap (λ l. set l (at + i) x) inv ∙ (λ j. set (put old at (replicate i b)) (sym place j) (is j)) ∙ put-push old at (replicate i b) (omega arith) b (omega arith) ∙ ap (put old at) (replicate_more i b)
+pub filled_with : {X P : Type 0} (R : P → X → P → Type 0) (b : X) → ((p : P) (x : X) (q : P) → R p x q → x ≡ b) → (xs : List X) (p q : P) → FoldsTo R p xs q → xs ≡ replicate (length xs) b
+filled_with R b is [] p q h = refl
+filled_with R b is (x ∷ xs) p q h = λ i. is p x h.0 h.1 i ∷ filled_with R b is xs h.0 q h.2 i
 
-  pub length_part : (a n : ℕ) → a + n ≤ length old → length (part a n old) ≡ n
-  length_part a n h = let d = length-drop a old in length-take-le n (drop a old) (omega arith)
+pub length_part : {X : Type 0} (xs : List X) (a n : ℕ) → a + n ≤ length xs → length (part a n xs) ≡ n
+length_part xs a n h = let d = length-drop a xs in length-take-le n (drop a xs) (omega arith)
 
-  pub part-more : (a n : ℕ) (x : X) → a + n < length old → x ≡ get_or old (a + n) x → part a (n + 1) old ≡ part a n old ++ x ∷ []
-  part-more a n x h is =
-      let d = length-drop a old in
-      take_more (drop a old) n x (omega arith) ∙ ap (λ y. part a n old ++ y ∷ []) (get_or-drop a old n x ∙ sym is)
+pub part-past : {X : Type 0} (xs ys zs : List X) (n a m k : ℕ) → length xs + length ys ≡ n → n ≤ a → k ≡ m → take k (drop (a - n) zs) ≡ part a m (xs ++ (ys ++ zs))
+part-past xs ys zs n a m k e h f =
+    let place : n + (a - n) ≡ a = omega arith in
+    let all = xs ++ (ys ++ zs) in
+    ap (λ j. take j (drop (a - n) zs)) f
+    ∙ ap (λ l. take m (drop (a - n) l)) (sym (drop_at (xs ++ ys) zs n (length-append xs ys ∙ e)) ∙ ap (drop n) (append_assoc xs ys zs))
+    ∙ ap (take m) (drop-drop (a - n) n all ∙ ap (λ j. drop j all) place)
 
-  pub copied_more : (a i n : ℕ) (x : X) (new : List X) → Apart a n at n old → new ≡ put old at (part a i old) → x ≡ get_or new (a + i) x → i < n → set new (at + i) x ≡ put old at (part a (i + 1) old)
-  copied_more a i n x new ok inv read h =
-      let p = ok.first in
-      let q = ok.second in
-      let long = length_part a i (omega arith) in
-      let fits : at + length (part a i old) ≤ length old = omega arith in
-      let place : at + length (part a i old) ≡ at + i = ap (λ m. at + m) long in
-      let there : x ≡ get_or old (a + i) x = read ∙ ap (λ l. get_or l (a + i) x) inv ∙ ⊎_elim (λ l. get_or-put_before old at (part a i old) fits (a + i) x (omega arith)) (λ l. get_or-put_after old at (part a i old) fits (a + i) x (omega arith)) ok.clear in
-      ap (λ l. set l (at + i) x) inv ∙ ap (λ m. set (put old at (part a i old)) m x) (sym place) ∙ put-push old at (part a i old) fits x (omega arith) ∙ ap (put old at) (sym (part-more a i x (omega arith) there))
+pub copied : {X : Type 0} (xs : List X) (a e at n : ℕ) → e - a ≡ n → a + n ≤ length xs → copy_within xs a e at ≡ put xs at (part a n xs)
+copied xs a e at n d h =
+    let l = length_part xs a n h in
+    append_assoc (take at xs) (take (e - a) (drop a xs)) (drop (at + (e - a)) xs)
+    ∙ ap (λ m. take at xs ++ (take m (drop a xs) ++ drop (at + m) xs)) d ∙ ap (λ m. take at xs ++ (part a n xs ++ drop (at + m) xs)) (sym l)

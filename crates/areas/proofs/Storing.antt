@@ -23,13 +23,13 @@ abbrev pub count_of : {X : Type 0} → List X → List ℕ → ℕ → ℕ
 count_of rows counts a = min (get_or counts a 0) (room_of rows)
 
 abbrev pub contents-of : {V : Type 0} → List (Row V) → List ℕ → Contents V
-contents-of rows counts = record { room = room_of rows; tables = λ a. part (a * room_of rows) (count_of rows counts a) rows }
+contents-of rows counts = record { lent = length rows; room = room_of rows; tables = λ a. part (a * room_of rows) (count_of rows counts a) rows }
 
 abbrev pub CountedOf : {X : Type 0} → List X → List ℕ → ℕ → Type 0
 CountedOf rows counts i = (a : ℕ) × (a < 12) × (a * room_of rows ≤ i) × (i < a * room_of rows + count_of rows counts a)
 
 abbrev pub TidyOf : {V : Type 0} → Kind V → List (Row V) → List ℕ → Type 0
-TidyOf K rows counts = (i : ℕ) → i < length rows → CountedOf rows counts i ⊎ (get_or rows i (blank K) ≡ blank K)
+TidyOf K rows counts = (i : ℕ) → i < length rows → (CountedOf rows counts i → ⊥) → get_or rows i (blank K) ≡ blank K
 
 -- two different areas have no row in common
 pub apart : (a b c m n : ℕ) → (a ≡ b → ⊥) → m ≤ c → n ≤ c → Clear (a * c) m (b * c) n
@@ -51,10 +51,11 @@ module _ {X : Type 0} (o a : ℕ) (x y : X) where
   choice_none h = cond-false _ x y (and_right _ _ (le-ltb a 12 h))
 
 pub storing-none : {V : Type 0} (c : Contents V) (a : ℕ) (xs : List (Row V)) → 12 ≤ a → c ≡ storing c a xs
-storing-none c a xs h = λ i. record { room = c.room; tables = λ o. sym (choice_none o a xs (c.tables o) h) i }
+storing-none c a xs h = λ i. record { lent = c.lent; room = c.room; tables = λ o. sym (choice_none o a xs (c.tables o) h) i }
 
 pub storing-same : {V : Type 0} (c : Contents V) (a : ℕ) → c ≡ storing c a (c.tables a)
 storing-same c a = λ i. record {
+  lent = c.lent;
   room = c.room;
   tables = λ o. sym (cond_both (eqb o a && ltb a 12) (c.tables a) (c.tables o) (λ x. x ≡ c.tables o) (λ t. ap c.tables (sym (eqb-true o a (and_parts _ _ t).0))) (λ t. refl)) i;
 }
@@ -76,10 +77,10 @@ module _ {V : Type 0} (K : Kind V) (n : ℕ) (rows : List (Row V)) (is : rows �
   pub opened : contents-of rows zeros ≡ fresh n
   opened =
       let l = ap length is ∙ length-replicate n (blank K) in
-      λ i. record { room = capacity (l i); tables = λ a. ap (λ m. part (a * room_of rows) m rows) (opened-count a) i }
+      λ i. record { lent = l i; room = capacity (l i); tables = λ a. ap (λ m. part (a * room_of rows) m rows) (opened-count a) i }
 
   pub opened-tidy : TidyOf K rows zeros
-  opened-tidy i h = let l = ap length is ∙ length-replicate n (blank K) in inr (ap (λ r. get_or r i (blank K)) is ∙ get_or-replicate n i (blank K) (blank K) (omega arith))
+  opened-tidy i h out = let l = ap length is ∙ length-replicate n (blank K) in ap (λ r. get_or r i (blank K)) is ∙ get_or-replicate n i (blank K) (blank K) (omega arith)
 
 -- ---- rows that were written at the start of an area
 module _ {V : Type 0} (K : Kind V) (rows : List (Row V)) (counts : List ℕ) (a : ℕ) (inside : a < 12) (twelve : length counts ≡ 12) (xs : List (Row V)) (k : ℕ) (fits : length xs + k ≤ room_of rows) where
@@ -132,39 +133,42 @@ module _ {V : Type 0} (K : Kind V) (rows : List (Row V)) (counts : List ℕ) (a 
 
   pub stored : (new : List (Row V)) (cs : List ℕ) → new ≡ new_rows → cs ≡ new_counts → contents-of new cs ≡ storing (contents-of rows counts) a xs
   stored new cs e f =
-      (λ i. contents-of (e i) (f i)) ∙ (λ i. record { room = same-room i; tables = λ o. part (o * same-room i) (min (get_or new_counts o 0) (same-room i)) new_rows }) ∙ (λ i. record { room = c; tables = λ o. table_at o i })
+      (λ i. contents-of (e i) (f i)) ∙ (λ i. record { lent = same_length i; room = same-room i; tables = λ o. part (o * same-room i) (min (get_or new_counts o 0) (same-room i)) new_rows }) ∙ (λ i. record { lent = length rows; room = c; tables = λ o. table_at o i })
 
   module _ (old : count_of rows counts a ≤ length xs + k) where
-    Row_tidy : ℕ → Type 0
-    Row_tidy i = ((o : ℕ) × (o < 12) × (o * c ≤ i) × (i < o * c + min (get_or new_counts o 0) c)) ⊎ (get_or new_rows i (blank K) ≡ blank K)
+    NewlyCounted : ℕ → Type 0
+    NewlyCounted i = (o : ℕ) × (o < 12) × (o * c ≤ i) × (i < o * c + min (get_or new_counts o 0) c)
 
-    tidy_in : (i : ℕ) → a * c ≤ i → i < a * c + length written → Row_tidy i
-    unfolding Row_tidy
-    tidy_in i h l =
+    tidy_in : (i : ℕ) → a * c ≤ i → i < a * c + length written → (NewlyCounted i → ⊥) → get_or new_rows i (blank K) ≡ blank K
+    unfolding NewlyCounted
+    tidy_in i h l out =
         let w = long in
         let n = here in
-        ⊎_elim (λ s. inl (a, inside, h, omega arith))
-        (λ s. inr (get_or-put_in rows (a * c) written within i (blank K) h l ∙ get_or-append_right xs (replicate k (blank K)) (length xs) (i - a * c) (blank K) refl (omega arith) ∙ get_or-replicate k (i - a * c - length xs) (blank K) (blank K) (omega arith)))
+        ⊎_elim (λ s. absurd (out (a, inside, h, omega arith)))
+        (λ s. get_or-put_in rows (a * c) written within i (blank K) h l ∙ get_or-append_right xs (replicate k (blank K)) (length xs) (i - a * c) (blank K) refl (omega arith) ∙ get_or-replicate k (i - a * c - length xs) (blank K) (blank K) (omega arith))
         (cases_lt i (a * c + length xs))
 
-    tidy_out : (i : ℕ) → (i < a * c) ⊎ (a * c + length written ≤ i) → CountedOf rows counts i ⊎ (get_or rows i (blank K) ≡ blank K) → Row_tidy i
-    unfolding Row_tidy
-    tidy_out i out (inl (o, ho, low, high)) =
+    -- what was counted outside what was written is so still
+    counted_out : (i : ℕ) → (i < a * c) ⊎ (a * c + length written ≤ i) → CountedOf rows counts i → NewlyCounted i
+    unfolding NewlyCounted
+    counted_out i out (o, ho, low, high) =
         let w = long in
         let ne : o ≡ a → ⊥ = λ e. let m = ap (λ n. n * c) e in let d = ap (count_of rows counts) e in omega arith in
         let t = there o ne in
-        inl (o, ho, low, omega arith)
-    tidy_out i out (inr b) = inr (⊎_elim (get_or-put_before rows (a * c) written within i (blank K)) (get_or-put_after rows (a * c) written within i (blank K)) out ∙ b)
+        (o, ho, low, omega arith)
 
-    all_tidy : TidyOf K rows counts → (i : ℕ) → i < length rows → Row_tidy i
+    tidy_out : TidyOf K rows counts → (i : ℕ) → i < length rows → (i < a * c) ⊎ (a * c + length written ≤ i) → (NewlyCounted i → ⊥) → get_or new_rows i (blank K) ≡ blank K
+    tidy_out tidy i h beside out = ⊎_elim (get_or-put_before rows (a * c) written within i (blank K)) (get_or-put_after rows (a * c) written within i (blank K)) beside ∙ tidy i h (λ d. out (counted_out i beside d))
+
+    all_tidy : TidyOf K rows counts → (i : ℕ) → i < length rows → (NewlyCounted i → ⊥) → get_or new_rows i (blank K) ≡ blank K
     all_tidy tidy i h =
-        ⊎_elim (λ l. tidy_out i (inl l) (tidy i h))
-        (λ g. ⊎_elim (tidy_in i g) (λ l. tidy_out i (inr l) (tidy i h)) (cases_lt i (a * c + length written)))
+        ⊎_elim (λ l. tidy_out tidy i h (inl l))
+        (λ g. ⊎_elim (tidy_in i g) (λ l. tidy_out tidy i h (inr l)) (cases_lt i (a * c + length written)))
         (cases_lt i (a * c))
 
     pub stored-tidy : (new : List (Row V)) (cs : List ℕ) → new ≡ new_rows → cs ≡ new_counts → TidyOf K rows counts → TidyOf K new cs
-    unfolding Row_tidy
+    unfolding NewlyCounted
     stored-tidy new cs e f tidy =
         let s = same_length in
         subst₂ (TidyOf K) (sym e) (sym f)
-        (λ i h. subst (λ r. ((o : ℕ) × (o < 12) × (o * r ≤ i) × (i < o * r + min (get_or new_counts o 0) r)) ⊎ (get_or new_rows i (blank K) ≡ blank K)) (sym same-room) (all_tidy tidy i (omega arith)))
+        (λ i h. subst (λ r. (((o : ℕ) × (o < 12) × (o * r ≤ i) × (i < o * r + min (get_or new_counts o 0) r)) → ⊥) → get_or new_rows i (blank K) ≡ blank K) (sym same-room) (all_tidy tidy i (omega arith)))

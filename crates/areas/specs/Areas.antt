@@ -1,6 +1,6 @@
 -- Twelve tables in lent rows: each area is the same share of the rows, and its table is the first of its rows, as many as its count says.
 --     capacity n         the rows of one area, where n rows are lent
---     Contents V         what areas hold: the room of each, and its table
+--     Contents V         what areas hold: how many rows are lent, the room of each area, and its table
 --     contents s         what the areas s hold
 --     storing c a xs     c with the table xs in the area a; c itself if there is no such area
 --     fresh n            what areas hold that were opened on n rows: no row
@@ -13,7 +13,7 @@
 --     scaling K c t a b y    the table in a plus that in b times the row y, to be left in t, or the refusal
 --     Counted s i        the lent row of index i is a row of some table
 --     Tidy K s           every lent row that is no row of a table is blank
-use Rattle.std.specs.Prelude.{◌≡◌, ℕ, ◌+◌, ◌*◌, ◌/◌, ◌<◌, ◌≤◌, min, Bool, cond, not, ◌&&◌, ◌⊎◌, List, [], ◌∷◌, ◌++◌, length, Ok, Err, Result, ◌==◌, nat_lt, slice_index, slice_index_or}
+use Rattle.std.specs.Prelude.{◌≡◌, ℕ, ◌+◌, ◌*◌, ◌/◌, ◌<◌, ◌≤◌, min, Bool, cond, not, ◌&&◌, List, [], ◌∷◌, ◌++◌, length, Ok, Err, Result, ◌==◌, nat_lt, slice_index, slice_index_or}
 use Rattle.refusals.specs.declared.Refusal.{Refusal}
 use Rattle.refusals.specs.declared.Refusal.TheVariants.{Place}
 use Rattle.rings.specs.Kinds.{Kind}
@@ -27,6 +27,7 @@ abbrev pub capacity : ℕ → ℕ
 capacity n = min (n / 12) 4096
 
 pub record Contents (V : Type 0) : Type 0 where
+  pub lent : ℕ
   pub room : ℕ
   pub tables : ℕ → List (Row V)
 
@@ -37,13 +38,13 @@ abbrev pub count : {V : Type 0} → Areas V → ℕ → ℕ
 count s a = min (slice_index s.counts a) (lent_room s)
 
 abbrev pub contents : {V : Type 0} → Areas V → Contents V
-contents s = record { room = lent_room s; tables = λ a. part (a * lent_room s) (count s a) s.rows.now }
+contents s = record { lent = length s.rows.now; room = lent_room s; tables = λ a. part (a * lent_room s) (count s a) s.rows.now }
 
 abbrev pub storing : {V : Type 0} → Contents V → ℕ → List (Row V) → Contents V
-storing c a xs = record { room = c.room; tables = λ o. cond (o == a && nat_lt a 12) xs (c.tables o) }
+storing c a xs = record { lent = c.lent; room = c.room; tables = λ o. cond (o == a && nat_lt a 12) xs (c.tables o) }
 
 abbrev pub fresh : {V : Type 0} → ℕ → Contents V
-fresh n = record { room = capacity n; tables = λ _. [] }
+fresh n = record { lent = n; room = capacity n; tables = λ _. [] }
 
 abbrev pub rows_of : {V : Type 0} → Result (List (Row V)) Refusal → List (Row V)
 rows_of (Ok xs) = xs
@@ -73,4 +74,4 @@ abbrev pub Counted : {V : Type 0} → Areas V → ℕ → Type 0
 Counted s i = (a : ℕ) × (a < 12) × (a * lent_room s ≤ i) × (i < a * lent_room s + count s a)
 
 abbrev pub Tidy : {V : Type 0} → Kind V → Areas V → Type 0
-Tidy K s = (i : ℕ) → i < length s.rows.now → Counted s i ⊎ (slice_index_or s.rows.now i (blank K) ≡ blank K)
+Tidy K s = (i : ℕ) → i < length s.rows.now → (Counted s i → ⊥) → slice_index_or s.rows.now i (blank K) ≡ blank K

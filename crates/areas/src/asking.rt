@@ -3,9 +3,9 @@ ghost use Rattle.std.specs.Prelude.{◌≡◌, ◌+◌, ◌*◌, ◌<◌};
 ghost use Rattle.areas.specs.Areas.{contents, lent_room, count};
 
 use crate::open::capacity_of;
-use crate::span::Span;
-use crate::twelve::Areas;
+use crate::twelve::{AREAS, Areas};
 use rows::Row;
+use std::ops::Range;
 
 impl<K> Areas<'_, K> {
     // The rows of one area: the most that a table can have.
@@ -19,13 +19,11 @@ impl<K> Areas<'_, K> {
     pub fn table(&self, area: usize) -> &[Row<K>]
         ensures { result.now ≡ (contents self.now).tables area }
     {
-        let counts: &[usize] = &self.counts;
-        if area >= counts.len() {
-            return &self.rows[0..0];
+        if area < AREAS {
+            &self.rows[self.span(area)]
+        } else {
+            &[]
         }
-        let from = area * self.room();
-        let to = from + self.count(area);
-        &self.rows[from..to]
     }
 
     // How many rows the table in an area has.
@@ -33,20 +31,15 @@ impl<K> Areas<'_, K> {
         requires { area < 12 }
         ensures { result ≡ count self.now area }
     {
-        let room = self.room();
-        let count = self.counts[area];
-        if count < room { count } else { room }
+        self.counts[area].min(self.room())
     }
 
-    // Where they lie.
-    pub(crate) fn span(&self, area: usize) -> Span
+    // Where those rows lie.
+    pub(crate) fn span(&self, area: usize) -> Range<usize>
         requires { area < 12 }
-        ensures { result ≡ record { from = area * lent_room self.now; to = area * lent_room self.now + count self.now area } }
+        ensures { result ≡ record { start = area * lent_room self.now; end = area * lent_room self.now + count self.now area } }
     {
-        let from = area * self.room();
-        Span {
-            from,
-            to: from + self.count(area),
-        }
+        let start = area * self.room();
+        start..start + self.count(area)
     }
 }

@@ -2,7 +2,7 @@
 ghost use Rattle.std.specs.Prelude.{◌≡◌, []};
 ghost use Rattle.areas.specs.Areas.{contents, storing, Tidy};
 
-use crate::twelve::Areas;
+use crate::twelve::{AREAS, Areas};
 use rings::Ring;
 
 impl<K: Ring> Areas<'_, K> {
@@ -11,8 +11,8 @@ impl<K: Ring> Areas<'_, K> {
         ensures leaves { contents self.new ≡ storing (contents self.old) area [] }
         ensures tidy { Tidy K.kind self.old → Tidy K.kind self.new }
     {
-        if area < 12 {
-            self.settle(area, 0);
+        if area < AREAS {
+            self.settle(area, 0, self.count(area));
         }
     }
 }

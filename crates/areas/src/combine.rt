@@ -1,20 +1,62 @@
 // A table plus another one, or a multiple of it.
-ghost use Rattle.std.specs.Prelude.{◌≡◌};
+ghost use Rattle.std.specs.Prelude.{◌≡◌, ◌+◌, ◌-◌, ◌≤◌, List, ◌++◌, length, None as Nothing};
+ghost use Rattle.rows.specs.Tables.{limited, counted};
+ghost use Rattle.rows.specs.declared.Row.{Row as RowOf};
 ghost use Rattle.areas.specs.Areas.{contents, storing, rows_of, answered, apart as apart_from, Tidy};
-ghost use Rattle.areas.specs.Merging.{combined};
+ghost use Rattle.areas.specs.Merging.{spanned, giving, combined, IsBeside, Written};
 
-use crate::blank::blank_rows;
 use crate::merge::merge_rows;
-use crate::twelve::Areas;
+use crate::twelve::{AREAS, Areas};
 use refusals::Refusal;
 use rings::Ring;
 use rows::Row;
+use std::ops::Range;
 
 // Whether the numbers are those of areas, and the first is neither of the others.
 fn apart(to: usize, left: usize, right: usize) -> bool
     ensures { result ≡ apart_from to left right }
 {
-    (to < 12 && (left < 12 && right < 12)) && (to != left && to != right)
+    (to < AREAS && (left < AREAS && right < AREAS)) && (to != left && to != right)
+}
+
+// The rows of a span that lies before or after a gap, by the rows on both sides.
+fn beside<'a, K>(
+    before: &'a [Row<K>],
+    after: &'a [Row<K>],
+    gap: &Range<usize>,
+    span: Range<usize>,
+) -> &'a [Row<K>]
+    requires start { gap.now.start ≡ length before.now }
+    requires beside { IsBeside span gap.now (gap.now.end + length after.now) }
+    ensures { (rows : List (RowOf K)) → length before.now + length rows ≡ gap.now.end → result.now ≡ spanned (before.now ++ (rows ++ after.now)) span }
+{
+    if span.end <= gap.start {
+        &before[span]
+    } else {
+        &after[span.start - gap.end..span.end - gap.end]
+    }
+}
+
+// Writes the sum of the rows in two spans, those of the second times the factor, from the start of an area on, and answers how many rows it has.
+fn merge_spans<K: Ring>(
+    rows: &mut [Row<K>],
+    area: Range<usize>,
+    left: Range<usize>,
+    right: Range<usize>,
+    factor: Option<Row<K>>,
+) -> Result<usize, Refusal>
+    requires order { area.start ≤ area.end }
+    requires within { area.end ≤ length rows.old }
+    requires left { IsBeside left area (length rows.old) }
+    requires right { IsBeside right area (length rows.old) }
+    ensures answer { result ≡ counted (limited (area.end - area.start) (giving K.kind factor Nothing (spanned rows.old left) (spanned rows.old right))) }
+    ensures written { Written (limited (area.end - area.start) (giving K.kind factor Nothing (spanned rows.old left) (spanned rows.old right))) rows.old area rows.new }
+{
+    let (before, rest) = rows.split_at_mut(area.start);
+    let (out, after) = rest.split_at_mut(area.end - area.start);
+    let left = beside(before, after, &area, left);
+    let right = beside(before, after, &area, right);
+    merge_rows(left, right, factor, out)
 }
 
 impl<K: Ring> Areas<'_, K> {
@@ -35,18 +77,13 @@ impl<K: Ring> Areas<'_, K> {
             return Err(Refusal::Place);
         }
         let room = self.room();
-        let l = self.span(left);
-        let r = self.span(right);
-        match merge_rows(self.rows, l, r, factor, to * room, room) {
-            Ok(count) => {
-                self.settle(to, count);
-                Ok(())
-            }
-            Err(refusal) => {
-                blank_rows(self.rows, to * room, room);
-                self.counts[to] = 0;
-                Err(refusal)
-            }
-        }
+        let at = to * room;
+        let old = self.count(to);
+        let first = self.span(left);
+        let second = self.span(right);
+        let merged = merge_spans(self.rows, at..at + room, first, second, factor);
+        let used = if merged.is_ok() { old } else { room };
+        self.settle(to, merged.unwrap_or(0), used);
+        merged.map(|_| ())
     }
 }

@@ -12,7 +12,6 @@ mod open;
 mod product;
 mod push;
 mod settle;
-mod span;
 mod step;
 mod twelve;
 

@@ -3,7 +3,7 @@ ghost use Rattle.std.specs.Prelude.{◌≡◌, length};
 ghost use Rattle.areas.specs.Areas.{capacity, contents, fresh, Tidy};
 
 use crate::blank::blank_rows;
-use crate::twelve::Areas;
+use crate::twelve::{AREAS, Areas, MOST_ROWS};
 use rings::Ring;
 use rows::Row;
 
@@ -11,8 +11,7 @@ use rows::Row;
 pub(crate) fn capacity_of(len: usize) -> usize
     ensures { result ≡ capacity len }
 {
-    let share = len / 12;
-    if share < 4096 { share } else { 4096 }
+    (len / AREAS).min(MOST_ROWS)
 }
 
 impl<'a, K: Ring> Areas<'a, K> {
@@ -21,11 +20,10 @@ impl<'a, K: Ring> Areas<'a, K> {
         ensures holds { contents result ≡ fresh (length rows.old) }
         ensures tidy { Tidy K.kind result }
     {
-        let len = rows.len();
-        blank_rows(rows, 0, len);
+        blank_rows(rows);
         Areas {
             rows,
-            counts: [0; 12],
+            counts: [0; AREAS],
         }
     }
 }

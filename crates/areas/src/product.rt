@@ -10,11 +10,7 @@ use rows::Row;
 pub(crate) fn nonzero<K: Ring>(key: u64, coefficient: K) -> Option<Row<K>>
     ensures { result ≡ row_unless_zero K.kind key coefficient }
 {
-    if coefficient.is_zero() {
-        None
-    } else {
-        Some(Row { key, coefficient })
-    }
+    (!coefficient.is_zero()).then_some(Row { key, coefficient })
 }
 
 // A row times the factor, if there is one: keys added, coefficients multiplied. None if the product is zero.

@@ -2,7 +2,7 @@
 ghost use Rattle.std.specs.Prelude.{◌≡◌};
 ghost use Rattle.areas.specs.Areas.{contents, answered, kept, pushed, Tidy};
 
-use crate::twelve::Areas;
+use crate::twelve::{AREAS, Areas};
 use refusals::Refusal;
 use rings::Ring;
 use rows::Row;
@@ -14,7 +14,7 @@ impl<K: Ring> Areas<'_, K> {
         ensures leaves { contents self.new ≡ kept (contents self.old) area (pushed (contents self.old) area row) }
         ensures tidy { Tidy K.kind self.old → Tidy K.kind self.new }
     {
-        if area > 11 {
+        if area >= AREAS {
             return Err(Refusal::Place);
         }
         let room = self.room();

@@ -1,86 +1,147 @@
 // The polynomials that the operations work on.
+ghost use Rattle.std.specs.Prelude.{◌<◌};
+ghost use Rattle.integers.specs.Integers.{integers};
+ghost use Rattle.residues.specs.Residues.{residues};
+ghost use Rattle.sheets.specs.Desks.{Blank};
+ghost use Rattle.sheets.specs.Running.{Neat};
+
 use formats::{Draft, Format};
 use integers::Integer;
+use refusals::Refusal;
 use residues::Residue;
-use sheets::Sheet;
+use rings::Ring;
+use sheets::{Desk, Sheet};
 
-// The format of letters with one width each.
-fn format_of(letters: &[u8; 3], width: u32) -> Option<Format> {
-    let mut draft = Draft::new();
-    for i in 0..3 {
-        match draft.add(letters[i], width) {
-            Ok(longer) => draft = longer,
-            Err(_) => return None,
+// The format of X, Y and Z with one width each.
+pub(crate) fn format_of(width: u32) -> Result<Format, Refusal> {
+    b"XYZ"
+        .iter()
+        .try_fold(Draft::new(), |draft, letter| draft.add(*letter, width))
+        .and_then(Draft::close)
+        .map_err(|(refusal, _)| refusal)
+}
+
+// Makes the running table, if the rows that were entered made one, the rows of a place.
+fn stored<K: Ring>(
+    desk: &mut Desk<'_, K>,
+    place: usize,
+    entered: Result<(), Refusal>,
+) -> Result<(), Refusal>
+    ensures { Neat K.kind desk.old → Blank K.kind desk.new }
+{
+    match entered {
+        Ok(()) => desk.store(place),
+        Err(refusal) => {
+            desk.abandon();
+            Err(refusal)
         }
     }
-    match draft.close() {
-        Ok(format) => Some(format),
-        Err(_) => None,
+}
+
+// Enters 2,000 rows. A row is told by its number, which falls, as its key and its figure.
+fn enter_table<F: Fn(u32) -> (u64, i64)>(
+    desk: &mut Desk<'_, Integer>,
+    row: F,
+) -> Result<(), Refusal>
+    requires { F.IsAlwaysCallable row }
+    ensures { Neat integers desk.old → Neat integers desk.new }
+{
+    desk.begin();
+    for i in (0..2000).rev() {
+        let (key, figure) = row(i);
+        desk.enter(key, Integer { figure })?;
+    }
+    Ok(())
+}
+
+// A table of 2,000 rows in a place.
+fn table<F: Fn(u32) -> (u64, i64)>(
+    sheet: &mut Sheet<'_, Integer>,
+    place: usize,
+    row: F,
+) -> Result<(), Refusal>
+    requires { F.IsAlwaysCallable row }
+{
+    let entered = enter_table(&mut sheet.desk, row);
+    stored(&mut sheet.desk, place, entered)
+}
+
+// Two tables in places 0 and 1, a third of whose keys are the same.
+pub(crate) fn two_tables(sheet: &mut Sheet<'_, Integer>) -> Result<(), Refusal> {
+    table(sheet, 0, |i| (2 * u64::from(i), 2000 - i64::from(i)))?;
+    table(sheet, 1, |i| {
+        let size = 1999 - i64::from(i);
+        let figure = if i % 2 == 0 { size } else { -size - 1 };
+        (3 * u64::from(i), figure)
+    })
+}
+
+// A row of random numbers.
+#[derive(Drop)]
+struct Draws {
+    seed: u32,
+}
+
+impl Draws {
+    // The next one, below a bound.
+    fn below(&mut self, bound: u16) -> u16
+        requires { 0 < bound }
+        ensures { result < bound }
+    {
+        self.seed = self
+            .seed
+            .wrapping_mul(1_664_525)
+            .wrapping_add(1_013_904_223);
+        ((self.seed >> 16) % u32::from(bound)) as u16
     }
 }
 
-pub(crate) fn integer_format() -> Option<Format> {
-    format_of(b"XYZ", 16)
-}
-
-pub(crate) fn residue_format() -> Option<Format> {
-    format_of(b"XYZ", 8)
-}
-
-// Two tables of 2,000 rows in places 0 and 1, a third of whose keys are the same.
-pub(crate) fn two_tables(sheet: &mut Sheet<'_, Integer>) {
-    sheet.begin();
-    for i in 0..2000u64 {
-        let figure = i as i64 + 1;
-        let _ = sheet.enter(2 * (1999 - i), Integer { figure });
-    }
-    let _ = sheet.store(0);
-    sheet.begin();
-    for i in 0..2000u64 {
-        let figure = if i % 2 == 1 {
-            i as i64
-        } else {
-            -(i as i64) - 1
-        };
-        let _ = sheet.enter(3 * (1999 - i), Integer { figure });
-    }
-    let _ = sheet.store(1);
-}
-
-// The next number of a row of random ones.
-fn draw(seed: u32) -> u32 {
-    seed.wrapping_mul(1_664_525).wrapping_add(1_013_904_223)
-}
-
-// A polynomial of 60 random terms, X up to 5, Y and Z up to 999.
-pub(crate) fn sparse(sheet: &mut Sheet<'_, Integer>, place: usize, from: u32) {
-    let mut seed = from;
-    sheet.begin();
+// Enters 60 random terms, X up to 5, Y and Z up to 999.
+fn enter_sparse(desk: &mut Desk<'_, Integer>, seed: u32) -> Result<(), Refusal>
+    ensures { Neat integers desk.old → Neat integers desk.new }
+{
+    let format = desk.format();
+    let mut draws = Draws { seed };
+    desk.begin();
     for _ in 0..60 {
-        seed = draw(seed);
-        let x = u64::from(seed >> 16) % 6;
-        seed = draw(seed);
-        let y = u64::from(seed >> 16) % 1000;
-        seed = draw(seed);
-        let z = u64::from(seed >> 16) % 1000;
-        seed = draw(seed);
-        let figure = 1 + i64::from((seed >> 16) % 100);
-        let _ = sheet.enter((x << 32) + (y << 16) + z, Integer { figure });
+        let (x, y, z) = (draws.below(6), draws.below(1000), draws.below(1000));
+        let figure = 1 + i64::from(draws.below(100));
+        let key = format.pack(&[x, y, z, 0, 0, 0, 0, 0])?;
+        desk.enter(key, Integer { figure })?;
     }
-    let _ = sheet.store(place);
+    Ok(())
+}
+
+// A polynomial of 60 random terms in a place.
+pub(crate) fn sparse(
+    sheet: &mut Sheet<'_, Integer>,
+    place: usize,
+    seed: u32,
+) -> Result<(), Refusal> {
+    let entered = enter_sparse(&mut sheet.desk, seed);
+    stored(&mut sheet.desk, place, entered)
+}
+
+// Enters the variables and one.
+fn enter_four(desk: &mut Desk<'_, Residue>) -> Result<(), Refusal>
+    ensures { Neat residues desk.old → Neat residues desk.new }
+{
+    let format = desk.format();
+    let one = Residue { number: 1 };
+    desk.begin();
+    for variable in 0..format.count() {
+        desk.enter(format.unit(variable)?, one)?;
+    }
+    desk.enter(0, one)
 }
 
 // (1 + X + Y + Z)^10 in place 0.
-pub(crate) fn power_of_four(sheet: &mut Sheet<'_, Residue>) {
-    let one = Residue { number: 1 };
-    sheet.begin();
-    let _ = sheet.enter(1 << 16, one);
-    let _ = sheet.enter(1 << 8, one);
-    let _ = sheet.enter(1, one);
-    let _ = sheet.enter(0, one);
-    let _ = sheet.store(1);
-    let _ = sheet.constant(0, 1, 0);
+pub(crate) fn power_of_four(sheet: &mut Sheet<'_, Residue>) -> Result<(), Refusal> {
+    let entered = enter_four(&mut sheet.desk);
+    stored(&mut sheet.desk, 1, entered)?;
+    sheet.constant(0, 1, 0)?;
     for _ in 0..10 {
-        let _ = sheet.multiply(0, 0, 1);
+        sheet.multiply(0, 0, 1)?;
     }
+    Ok(())
 }

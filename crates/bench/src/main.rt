@@ -6,102 +6,80 @@
 mod fill;
 mod report;
 
-use fill::{integer_format, power_of_four, residue_format, sparse, two_tables};
-use formats::Format;
+use fill::{format_of, power_of_four, sparse, two_tables};
 use integers::Integer;
-use report::{Timing, report};
+use report::{Printed, Report};
 use residues::Residue;
 use rings::Ring;
 use rows::Row;
 use sheets::Sheet;
-use std::time::Instant;
-use std::{env, io};
+use std::alloc::AllocError;
+use std::env;
+use uses::Call;
 
 // Rows for areas of 4096.
 const LENT: usize = 49152;
 
+// How often a fast operation is repeated for its time.
+const MANY: u32 = 1000;
+
+// How often a slow one is.
+const SOME: u32 = 20;
+
 // Adding 2,000 rows to 2,000.
-fn adding(rt: &HostRuntime, sheet: &mut Sheet<'_, Integer>, timing: Timing) -> io::Result<()> {
-    two_tables(sheet);
-    let start = Instant::now(rt)?;
-    for _ in 0..timing.many {
-        let _ = sheet.add(2, 0, 1);
-    }
-    report(rt, "add", sheet, 2, timing, start, timing.many)
+fn adding(report: &Report<'_>, sheet: &mut Sheet<'_, Integer>) -> anyhow::Result<()> {
+    two_tables(sheet)?;
+    report.of("add", MANY, sheet, 2, Call::Add(2, 0, 1))
 }
 
 // The product of two sparse polynomials of 60 terms, its derivative, and Y + 2 for X in the first of them.
-fn sparse_work(rt: &HostRuntime, sheet: &mut Sheet<'_, Integer>, timing: Timing) -> io::Result<()> {
-    sparse(sheet, 0, 1);
-    sparse(sheet, 1, 2);
-    let start = Instant::now(rt)?;
-    for _ in 0..timing.some {
-        let _ = sheet.multiply(2, 0, 1);
-    }
-    report(rt, "product", sheet, 2, timing, start, timing.some)?;
-    let start = Instant::now(rt)?;
-    for _ in 0..timing.some {
-        let _ = sheet.differentiate(3, 2, 1);
-    }
-    report(rt, "derivative", sheet, 3, timing, start, timing.some)?;
-    let _ = sheet.variable(4, 1);
-    let _ = sheet.constant(5, 2, 0);
-    let _ = sheet.add(4, 4, 5);
-    let start = Instant::now(rt)?;
-    for _ in 0..timing.some {
-        let _ = sheet.substitute(5, 0, 4, 0);
-    }
-    report(rt, "substitution", sheet, 5, timing, start, timing.some)
+fn sparse_work(report: &Report<'_>, sheet: &mut Sheet<'_, Integer>) -> anyhow::Result<()> {
+    sparse(sheet, 0, 1)?;
+    sparse(sheet, 1, 2)?;
+    report.of("product", SOME, sheet, 2, Call::Multiply(2, 0, 1))?;
+    report.of("derivative", SOME, sheet, 3, Call::Differentiate(3, 2, 1))?;
+    sheet.variable(4, 1)?;
+    sheet.constant(5, 2, 0)?;
+    sheet.add(4, 4, 5)?;
+    report.of("substitution", SOME, sheet, 5, Call::Substitute(5, 0, 4, 0))
 }
 
 // The square of (1 + X + Y + Z)^10 over residues.
-fn square(rt: &HostRuntime, sheet: &mut Sheet<'_, Residue>, timing: Timing) -> io::Result<()> {
-    power_of_four(sheet);
-    let start = Instant::now(rt)?;
-    for _ in 0..timing.some {
-        let _ = sheet.multiply(1, 0, 0);
-    }
-    report(rt, "square", sheet, 1, timing, start, timing.some)
+fn square(report: &Report<'_>, sheet: &mut Sheet<'_, Residue>) -> anyhow::Result<()> {
+    power_of_four(sheet)?;
+    report.of("square", SOME, sheet, 1, Call::Multiply(1, 0, 0))
 }
 
-fn with_integers(rt: &HostRuntime, format: Format, timing: Timing) -> io::Result<()> {
+// Blank rows to lend to a sheet.
+fn blank_rows<K: Ring>(rt: &HostRuntime) -> Result<Vec<Row<K>>, AllocError> {
     let blank = Row {
         key: 0,
-        coefficient: Integer { figure: 0 },
+        coefficient: K::zero(),
     };
-    let mut lent: Vec<Row<Integer>> = vec![in rt.alloc(); blank; LENT]?;
-    let mut sheet = Sheet::open(lent.as_mut_slice(), format);
-    adding(rt, &mut sheet, timing)?;
-    sparse_work(rt, &mut sheet, timing)
+    Ok(vec![in rt.alloc(); blank; LENT]?)
 }
 
-fn with_residues(rt: &HostRuntime, format: Format, timing: Timing) -> io::Result<()> {
-    let blank = Row {
-        key: 0,
-        coefficient: Residue { number: 0 },
-    };
-    let mut lent: Vec<Row<Residue>> = vec![in rt.alloc(); blank; LENT]?;
-    let mut sheet = Sheet::open(lent.as_mut_slice(), format);
-    square(rt, &mut sheet, timing)
+fn over_integers(report: &Report<'_>) -> anyhow::Result<()> {
+    let mut lent = blank_rows::<Integer>(report.rt)?;
+    let mut sheet = Sheet::open(lent.as_mut_slice(), format_of(16)?);
+    adding(report, &mut sheet)?;
+    sparse_work(report, &mut sheet)
 }
 
-fn start(rt: &HostRuntime) -> anyhow::Result<()> {
-    let mut args = env::args(rt)?;
-    let _program = args.next();
-    let timed = match args.next() {
-        Some(word) => word.as_str() == "time",
-        None => false,
-    };
-    let timing = Timing::of(timed);
-    if let Some(format) = integer_format() {
-        with_integers(rt, format, timing)?;
-    }
-    if let Some(format) = residue_format() {
-        with_residues(rt, format, timing)?;
-    }
-    Ok(())
+fn over_residues(report: &Report<'_>) -> anyhow::Result<()> {
+    let mut lent = blank_rows::<Residue>(report.rt)?;
+    let mut sheet = Sheet::open(lent.as_mut_slice(), format_of(8)?);
+    square(report, &mut sheet)
 }
 
 fn main(rt: HostRuntime) -> anyhow::Result<()> {
-    start(&rt)
+    let timed = env::args(&rt)?
+        .nth(1)
+        .is_some_and(|word| word.as_str() == "time");
+    let report = Report {
+        rt: &rt,
+        printed: if timed { Printed::Time } else { Printed::Rows },
+    };
+    over_integers(&report)?;
+    over_residues(&report)
 }

@@ -1,85 +1,80 @@
 // What is printed of an operation.
+ghost use Rattle.std.specs.Prelude.{◌<◌};
+
+use refusals::Refusal;
 use rings::Ring;
 use rows::Row;
 use sheets::Sheet;
-use std::io;
 use std::time::Instant;
+use uses::{Call, NoDivision, perform};
 
-// Whether to measure, and how often each operation is repeated.
 #[derive(Clone, Copy)]
-pub(crate) struct Timing {
-    pub(crate) timed: bool,
-    pub(crate) many: u64,
-    pub(crate) some: u64,
+pub(crate) enum Printed {
+    // how many rows the result has, and a checksum of them
+    Rows,
+    // the nanoseconds that the operation takes
+    Time,
 }
 
-impl Timing {
-    pub(crate) fn of(timed: bool) -> Timing {
-        if timed {
-            Timing {
-                timed,
-                many: 1000,
-                some: 20,
-            }
-        } else {
-            Timing {
-                timed,
-                many: 1,
-                some: 1,
-            }
-        }
-    }
-}
-
-// A sum with a figure, modulo 2 to the 64th.
-fn with_figure(sum: u64, figure: i64) -> u64 {
-    let size = figure.unsigned_abs();
-    if figure < 0 {
-        sum.wrapping_sub(size)
-    } else {
-        sum.wrapping_add(size)
-    }
+#[derive(Drop)]
+pub(crate) struct Report<'a> {
+    pub(crate) rt: &'a HostRuntime,
+    pub(crate) printed: Printed,
 }
 
 // A number that hangs on every key and figure of a table.
 fn checksum<K: Ring>(rows: &[Row<K>]) -> u64 {
-    let mut sum: u64 = 0;
-    for i in 0..rows.len() {
-        let (figure, _) = rows[i].coefficient.figures();
-        sum = with_figure(
-            sum.wrapping_mul(31)
-                .wrapping_add(rows[i].key.wrapping_mul(7)),
-            figure,
-        );
+    let mut sum = 0u64;
+    for row in rows {
+        let (figure, _) = row.coefficient.figures();
+        sum = sum
+            .wrapping_mul(31)
+            .wrapping_add(row.key.wrapping_mul(7))
+            .wrapping_add_signed(figure);
     }
     sum
 }
 
-// Prints the time of an operation that was repeated, or the rows and the checksum of its result.
-pub(crate) fn report<K: Ring>(
-    rt: &HostRuntime,
-    name: &str,
-    sheet: &Sheet<'_, K>,
-    place: usize,
-    timing: Timing,
-    start: Instant,
-    times: u64,
-) -> io::Result<()> {
-    if timing.timed {
-        let spent = start.elapsed(rt)?.as_nanos();
-        let each = if times == 0 {
-            0
-        } else {
-            spent / (times as u128)
-        };
-        return println!(rt; "{name} {each}");
+// Performs a call so many times.
+fn repeat<K: Ring>(
+    sheet: &mut Sheet<'_, K>,
+    call: &Call<'_, NoDivision>,
+    times: u32,
+) -> Result<(), Refusal> {
+    for _ in 0..times {
+        perform(sheet, call, &mut []).map_err(|fault| fault.refusal)?;
     }
-    match sheet.rows(place) {
-        Err(_) => Ok(()),
-        Ok(rows) => {
-            let count = rows.len();
-            let sum = checksum(rows);
-            println!(rt; "{name} {count} {sum}")
+    Ok(())
+}
+
+impl Report<'_> {
+    // Prints what a call leaves in a place, or the time that it takes, by so many repetitions.
+    pub(crate) fn of<K: Ring>(
+        &self,
+        name: &str,
+        times: u32,
+        sheet: &mut Sheet<'_, K>,
+        place: usize,
+        call: Call<'_, NoDivision>,
+    ) -> anyhow::Result<()>
+        requires { 0 < times }
+    {
+        let call = &call;
+        match self.printed {
+            Printed::Rows => {
+                repeat(sheet, call, 1)?;
+                let rows = sheet.rows(place)?;
+                let count = rows.len();
+                let sum = checksum(rows);
+                println!(self.rt; "{name} {count} {sum}")?;
+            }
+            Printed::Time => {
+                let start = Instant::now(self.rt)?;
+                repeat(sheet, call, times)?;
+                let each = start.elapsed(self.rt)?.as_nanos() / u128::from(times);
+                println!(self.rt; "{name} {each}")?;
+            }
         }
+        Ok(())
     }
 }

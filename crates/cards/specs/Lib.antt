@@ -1,3 +1,6 @@
-pub mod Decks
 pub mod Bytes
+pub mod Sinks
+pub mod Rooms
+pub mod Writers
 pub mod Written
+pub mod Read

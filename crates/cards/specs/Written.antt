@@ -7,11 +7,11 @@ use Rattle.refusals.specs.declared.Refusal.{Refusal}
 use Rattle.refusals.specs.declared.Refusal.TheVariants.{Place, Output}
 use Rattle.rings.specs.Kinds.{Kind}
 use Rattle.rows.specs.Lists.{put}
-use Rattle.tables.specs.Sheets.{State, place, placed}
-use Rattle.cards.specs.Decks.{deck}
+use Rattle.sheets.specs.States.{State, placed}
+use Rattle.texts.specs.Decks.{deck}
 
 abbrev pub cards : {V : Type 0} → Kind V → State V → ℕ → List ℕ
-cards K s p = deck K s.vars (place s p)
+cards K s p = deck K s.vars (s.places p)
 
 abbrev pub write_answer : {V : Type 0} → Kind V → State V → ℕ → ℕ → Result ℕ Refusal
 write_answer K s p n = cond (placed p) (cond (nat_le (length (cards K s p)) n) (Ok (length (cards K s p))) (Err Output)) (Err Place)

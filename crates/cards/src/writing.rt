@@ -1,12 +1,14 @@
 // Writing a place.
 ghost use Rattle.std.specs.Prelude.{◌≡◌, length};
-ghost use Rattle.tables.specs.Sheets.{state};
+ghost use Rattle.sheets.specs.Sheets.{state};
 ghost use Rattle.cards.specs.Written.{write_answer, write_leaves};
 
-use crate::deck::{deck_len, put_deck};
+use crate::deck::put_deck;
+use crate::room::Room;
+use crate::writer::Writer;
 use refusals::Refusal;
 use rings::Ring;
-use tables::Sheet;
+use sheets::Sheet;
 
 // Writes the cards of a place to the start of the output, and answers how many bytes they have.
 pub fn write<K: Ring>(
@@ -19,8 +21,12 @@ pub fn write<K: Ring>(
 {
     let rows = sheet.rows(place)?;
     let format = sheet.format();
-    if deck_len(&format, rows) > output.len() {
-        return Err(Refusal::Output);
-    }
-    Ok(put_deck(output, &format, rows))
+    let mut room = Room {
+        left: Some(output.len()),
+    };
+    put_deck(&mut room, &format, rows);
+    room.left.ok_or(Refusal::Output)?;
+    let mut writer = Writer { output, at: 0 };
+    put_deck(&mut writer, &format, rows);
+    Ok(writer.at)
 }

@@ -16,7 +16,7 @@ use Rattle.arithmetic.specs.Quotients.{Stopped, Divided}
 use Rattle.texts.specs.Decks.{deck}
 use Rattle.sheets.specs.Calls.{all_placed}
 use Rattle.sheets.specs.Promises.{Formulas}
-use Rattle.sheets.specs.Sheets.{State, placed}
+use Rattle.sheets.specs.States.{State, placed}
 use Rattle.conduct.specs.Calls.{answer, changing, cards}
 use Rattle.conduct.specs.Calls.Answer.{refused}
 use Rattle.conduct.specs.Calls.Call.{divide}

@@ -36,7 +36,7 @@ use Rattle.texts.specs.Theorems.{DecksOfTables}
 use Rattle.sheets.specs.Calls as call
 use Rattle.sheets.specs.Calls.{both_placed, all_placed, constant_rows, variable_rows, divided}
 use Rattle.sheets.specs.Promises.{Formulas, giving, NoConstant}
-use Rattle.sheets.specs.Sheets.{State, placed, stored, kept}
+use Rattle.sheets.specs.States.{State, placed, stored, kept}
 use Rattle.sheets.proofs.Terms.{constant_gives, variable_gives}
 use Rattle.conduct.specs.Calls.{Call, Answer, divides, accepted, answer, after, changing, read_answer, read_leaves}
 use Rattle.conduct.specs.Calls.Answer.{refused}
@@ -128,11 +128,11 @@ pub record Known {V : Type 0} (K : Kind V) (over : Over V) (vs : List Variable) 
   pub decks : DecksOfTables K vs
 
 -- ---- each call
-module _ {V : Type 0} (K : Kind V) (over : Over V) (vs : List Variable) (may : Bool) (known : Known K over vs may) (c : ℕ) (ps : ℕ → List (Row V)) (f : Formulas K) (h : Holding K vs ps f) where
+module _ {V : Type 0} (K : Kind V) (over : Over V) (vs : List Variable) (may : Bool) (known : Known K over vs may) (n c : ℕ) (ps : ℕ → List (Row V)) (f : Formulas K) (h : Holding K vs ps f) where
   open known use {ring, laws, figures, sound, whole, arithmetic, division, decks}
 
   abbrev s : State V
-  s = record { room = c; places = ps; vars = vs }
+  s = record { lent = n; room = c; places = ps; vars = vs }
 
   abbrev Goes : Call → Type 0
   Goes call = Steps K vs call f (answer K over s call) (after K over s call).places

@@ -19,7 +19,7 @@ use Rattle.texts.specs.Decks.{deck}
 use Rattle.texts.specs.Numbers.{Fault}
 use Rattle.texts.specs.Reading.{Deck, read as read_text}
 use Rattle.sheets.specs.Calls as call
-use Rattle.sheets.specs.Sheets.{State, placed, kept, stored}
+use Rattle.sheets.specs.States.{State, placed, kept, stored}
 
 pub data Call : Type 0 where
   read : ℕ → List ℕ → Call

@@ -22,7 +22,7 @@ use Rattle.algebra.specs.Tables.{Every}
 use Rattle.arithmetic.specs.Dividing.{Over}
 use Rattle.arithmetic.specs.Quotients.{Stopped}
 use Rattle.sheets.specs.Promises.{Formulas, Holds}
-use Rattle.sheets.specs.Sheets.{State, opened}
+use Rattle.sheets.specs.States.{State, opened}
 use Rattle.conduct.specs.Calls.{Call, Answer, divides, accepted, answer, after, after_all, cards}
 use Rattle.conduct.specs.Calls.Call.{divide}
 use Rattle.conduct.specs.Calls.Answer.{done, refused}

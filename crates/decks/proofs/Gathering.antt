@@ -1,5 +1,5 @@
 -- A term's next exponent, by its key. Assumes nothing.
---     total-some          a format's keys have a bit at least
+--     narrow_width        an exponent has at most 16 bits
 --     power-refused       a number that is no exponent of the next variable
 --     power-more          one that is, where others are to come
 --     power-whole         one that is, where none is
@@ -14,28 +14,25 @@ use Rattle.formats.specs.Variables.{total, variable}
 use Rattle.formats.specs.declared.variable.Variable.{Variable}
 use Rattle.formats.proofs.Keys.{width_at, pack-unpack}
 use Rattle.formats.proofs.Turns.{length_unpack}
-use Rattle.formats.proofs.Walks.{at, total-step}
+use Rattle.formats.proofs.Walks.{at}
 use Rattle.rows.specs.Tables.{row}
 use Rattle.texts.specs.Numbers.{Fault}
-use Rattle.texts.specs.Terms.{Got, power}
+use Rattle.texts.specs.Terms.{Got, power, gathered}
 use Rattle.texts.specs.Terms.Partial.{powers}
 use Rattle.texts.specs.Terms.Got.{more, whole}
 use Rattle.decks.specs.Shown.{fault_of}
 use Rattle.decks.specs.declared.fault.Fault as faults
 use Rattle.decks.proofs.Fields.{total-push, unpack-push}
 
-pub total-some : (vs : List Variable) → Sound vs → 1 ≤ total vs
-total-some vs s = omega (arith, total-step vs 0 s.some, width_at vs 0 s.ok s.some)
+pub narrow_width : (vs : List Variable) → Sound vs → (i : ℕ) → (at vs i).width ≤ 16
+narrow_width vs s i = ⊎_elim (λ h. (width_at vs i s.ok h).1) (λ h. let e = ap (λ v. v.width) (get_or_past vs i (variable 0 0) h) in omega arith) (cases_lt i (length vs))
 
 total_take : (vs : List Variable) (i : ℕ) → total (take i vs) ≤ total vs
 total_take vs zero = omega arith
 total_take [] (suc i) = omega arith
 total_take (v ∷ vs) (suc i) = omega (arith, total_take vs i)
 
--- the exponents with one more: all there, or more to come
-abbrev gathered : {V : Type 0} → List Variable → V → ℕ → List ℕ → Got V
-gathered vs x b es = cond (ltb (length es) (length vs)) (more (powers x b es)) (whole (row (pack vs es) x) b)
-
+-- the answer for an exponent e of w bits
 abbrev answered : {V : Type 0} → List Variable → V → ℕ → List ℕ → ℕ → ℕ → ℕ → Result (Got V) Fault
 answered vs x b es byte e w = cond (ltb e (2 ^ w)) (Ok (gathered vs x b (es ++ e ∷ []))) (Err (record { refusal = Exponent; byte = byte }))
 

@@ -1,14 +1,12 @@
 -- One turn of the work on a deck, from what a step and a number answer to what is read. Assumes nothing.
---     through_on, through-at, through_end     the bytes through a card's end, one byte on
 --     Left e u q           what is read where the work goes on at the card e with the term u and the state q
 --     turn_fault           the step is refused
 --     turn_on              no number ends
 --     number_fault, number_more, number-ends      a number ends, and is refused, goes into the term, or ends the deck
 --     term_entered, term-refused                  it completes a term, which is entered or refused
 --     reading-byte, reading_end                   these are turns of a text: at a byte, and at its end
-use Rattle.std.proofs.Common.{◌≡◌, ℕ, suc, ◌+◌, ◌<◌, ◌≤◌, eqb, List, length, get_or, drop, Some, None, Ok, Err, Option, Result, sym, refl, ap, ◌∙◌, add-one}
-use Rattle.std.proofs.lemmas.List.{drop_more, drop_all, at_drop_more, at_drop_all}
-use Rattle.std.proofs.lemmas.Bool.{eq-eqb, ne_eqb, cond-true, cond-false}
+use Rattle.std.proofs.Common.{◌≡◌, ℕ, ◌+◌, ◌<◌, ◌≤◌, List, length, get_or, drop, Some, None, Ok, Err, Option, Result, sym, refl, ap, ◌∙◌, add-one}
+use Rattle.std.proofs.lemmas.List.{drop_more, drop_all}
 use Rattle.refusals.specs.declared.Refusal.{Refusal}
 use Rattle.refusals.specs.declared.Refusal.TheVariants.{TextEnds}
 use Rattle.rings.specs.Kinds.{Kind}
@@ -27,16 +25,6 @@ use Rattle.decks.specs.declared.card.Step.{Step}
 use Rattle.decks.specs.declared.partial.Partial.{Partial}
 use Rattle.decks.specs.declared.partial.Got.{Got}
 use Rattle.decks.specs.declared.partial.Got.TheVariants.{More, Whole, Ends}
-
-module _ (bs : List ℕ) (i : ℕ) where
-  pub through_on : i < length bs → (get_or bs i 0 ≡ 10 → ⊥) → through (drop i bs) ≡ suc (through (drop (i + 1) bs))
-  through_on h n = at_drop_more through bs i 0 h ∙ cond-false (eqb (get_or bs i 0) 10) _ _ (ne_eqb (get_or bs i 0) 10 n)
-
-  pub through-at : i < length bs → get_or bs i 0 ≡ 10 → through (drop i bs) ≡ 1
-  through-at h e = at_drop_more through bs i 0 h ∙ cond-true (eqb (get_or bs i 0) 10) _ _ (eq-eqb (get_or bs i 0) 10 e)
-
-  pub through_end : length bs ≤ i → through (drop i bs) ≡ 0
-  through_end h = at_drop_all through bs i h
 
 -- a turn: the step r, and where a number ended what it left of the term t
 module _ {S V : Type 0} (K : Kind V) (vs : List Variable) (enter : Entering S V) (s : S) (t : Partial V) (end : ℕ) (go : numbers.Card → terms.Partial V → S → Result (Deck S) numbers.Fault) where

@@ -2,6 +2,7 @@
 ghost use Rattle.std.specs.Prelude.{◌^◌, ◌<◌, ◌≤◌};
 
 // Its first byte, whether a minus leads it, how many digits it has, and what they make.
+// The sign stands beside the size, since a minus comes before its digits, and a signed 0 cannot hold it.
 #[derive(Clone, Copy)]
 pub(crate) struct Begun {
     pub(crate) first: usize,

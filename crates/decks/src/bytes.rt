@@ -9,8 +9,5 @@ use refusals::Refusal;
 pub fn at_byte<T>(answer: Result<T, Refusal>, byte: usize) -> Result<T, Fault>
     ensures { result ≡ at_byte answer byte }
 {
-    match answer {
-        Ok(value) => Ok(value),
-        Err(refusal) => Err(Fault { refusal, byte }),
-    }
+    answer.map_err(|refusal| Fault { refusal, byte })
 }

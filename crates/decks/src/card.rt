@@ -11,6 +11,7 @@ pub(crate) enum Mode {
 }
 
 // The columns worked, the mode, whether a number stands since the last comma or the card's start, and the last comma's byte.
+// `some` is no part of `last`: as in the definition of texts, the byte of a comma stays after the numbers that follow it.
 #[derive(Clone, Copy)]
 pub struct Card {
     pub(crate) columns: u8,

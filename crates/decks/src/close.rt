@@ -5,8 +5,6 @@ ghost use Rattle.decks.specs.Shown.{shown, card_of};
 
 use crate::card::{Card, Mode, Step};
 use crate::fault::Fault;
-use crate::number::Number;
-use refusals::Refusal;
 
 impl Card {
     // The start of a card.
@@ -25,20 +23,7 @@ impl Card {
     pub fn close(self) -> Result<Step, Fault>
         ensures { shown result ≡ closed (card_of self) }
     {
-        let number = match self.mode {
-            Mode::Sign(minus) => {
-                return Err(Fault {
-                    refusal: Refusal::Byte,
-                    byte: minus,
-                });
-            }
-            Mode::Within(number) => Some(number.ended()),
-            Mode::Between if self.some => None,
-            Mode::Between => match self.last {
-                Some(comma) => Some(Number::nought(comma)),
-                None => None,
-            },
-        };
+        let number = self.mode.ended()?.or(self.zero(self.last));
         Ok(Step {
             card: Card::new(),
             number,

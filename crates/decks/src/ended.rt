@@ -1,33 +1,21 @@
-// Numbers that have ended.
+// Where a number ends.
 ghost use Rattle.std.specs.Prelude.{◌≡◌};
-ghost use Rattle.texts.specs.Numbers.{ended, nought};
-ghost use Rattle.decks.specs.Shown.{number_of, begun_of};
+ghost use Rattle.decks.specs.Steps.{ended};
 
-use crate::begun::Begun;
+use crate::card::Mode;
+use crate::fault::Fault;
 use crate::number::Number;
+use refusals::Refusal;
 
-impl Begun {
-    // The number that it has become at its end.
-    pub(crate) fn ended(self) -> Number
-        ensures { number_of result ≡ ended (begun_of self) }
+impl Mode {
+    // The number that ends here, if there is one. A minus may not stand without one.
+    pub(crate) fn ended(self) -> Result<Option<Number>, Fault>
+        ensures { result ≡ ended self }
     {
-        let size = self.size as i64;
-        let value = if self.negative { -size } else { size };
-        Number {
-            value,
-            first: self.first,
-        }
-    }
-}
-
-impl Number {
-    // An understood zero.
-    pub(crate) fn nought(byte: usize) -> Number
-        ensures { number_of result ≡ nought byte }
-    {
-        Number {
-            value: 0,
-            first: byte,
+        match self {
+            Mode::Between => Ok(None),
+            Mode::Sign(minus) => Err(Fault::new(Refusal::Byte, minus)),
+            Mode::Within(number) => Ok(Some(Number::from(number))),
         }
     }
 }

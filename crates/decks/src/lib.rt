@@ -2,8 +2,6 @@
 #![tactic(auto)]
 
 mod begun;
-mod beyond;
-mod blank;
 mod bytes;
 mod card;
 mod close;
@@ -14,14 +12,15 @@ mod digits;
 mod ended;
 mod ending;
 mod fault;
+mod gap;
 mod minus;
-mod next;
 mod number;
-mod other;
 mod partial;
 mod power;
 mod step;
+mod stray;
 mod taking;
+mod zero;
 
 pub use bytes::at_byte;
 pub use card::{Card, Step};

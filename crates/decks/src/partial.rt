@@ -2,6 +2,7 @@
 use rows::Row;
 
 // The coefficient and its first byte; how many exponents there are so far, and their key by the first so many variables.
+// It counts those, and does not hold the slice of the others: a term under way then borrows from no format.
 #[derive(Clone, Copy)]
 pub struct Powers<K> {
     pub(crate) coefficient: K,
@@ -11,6 +12,7 @@ pub struct Powers<K> {
 }
 
 // No number yet, a first figure with its first byte, or a coefficient and exponents.
+// Its first two cases are no `Option<Number>`: they are the cases of the definition of texts, by name.
 #[derive(Clone, Copy)]
 pub enum Partial<K> {
     None,

@@ -20,12 +20,10 @@ fn width_of(format: &Format, variable: usize) -> u8
     ensures width { result ≡ width_at (variables format.now) variable }
     ensures narrow { result ≤ 16 }
 {
-    let variables = format.variables();
-    if variable < variables.len() {
-        variables[variable].width
-    } else {
-        0
-    }
+    format
+        .variables()
+        .get(variable)
+        .map_or(0, |variable| variable.width)
 }
 
 // The exponent of a width that a number is.
@@ -33,13 +31,10 @@ fn exponent_of(number: Number, width: u8) -> Result<u64, Fault>
     requires { width ≤ 16 }
     ensures { Exponential number width result }
 {
-    if number.value < 0 || (number.value as u64) >> (width as u32) != 0 {
-        return Err(Fault {
-            refusal: Refusal::Exponent,
-            byte: number.first,
-        });
+    match u64::try_from(number.value) {
+        Ok(exponent) if exponent >> width == 0 => Ok(exponent),
+        _ => Err(Fault::new(Refusal::Exponent, number.first)),
     }
-    Ok(number.value as u64)
 }
 
 // The key without the bits above its fields.
@@ -59,13 +54,12 @@ pub(crate) fn power<K: Ring>(
 {
     let width = width_of(format, powers.count);
     let exponent = exponent_of(number, width)?;
-    let key = (powers.key << (width as u32)) + exponent;
+    let key = (powers.key << width) + exponent;
     if powers.count < format.count() - 1 {
         return Ok(Got::More(Partial::Powers(Powers {
-            coefficient: powers.coefficient,
-            first: powers.first,
             count: powers.count + 1,
             key,
+            ..powers
         })));
     }
     let row = Row {

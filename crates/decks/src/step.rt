@@ -17,15 +17,23 @@ impl Card {
         if byte == b'\n' {
             return self.close();
         }
+        // Past the columns any byte is a gap, and no column is counted.
         if self.columns >= COLUMNS {
-            return self.beyond();
+            return self.gap();
         }
-        match byte as char {
-            ' ' => self.blank(),
+        let Step { card, number } = match byte as char {
+            ' ' => self.gap(),
             ',' => self.comma(index),
             '-' => self.minus(index),
             '0'..='9' => self.digit(index, byte - b'0'),
-            _ => self.other(index),
-        }
+            _ => Err(self.mode.stray(index)),
+        }?;
+        Ok(Step {
+            card: Card {
+                columns: self.columns + 1,
+                ..card
+            },
+            number,
+        })
     }
 }

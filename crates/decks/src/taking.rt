@@ -17,12 +17,8 @@ pub fn take<K: Ring>(format: &Format, partial: Partial<K>, number: Number) -> Re
     ensures { got_shown (variables format.now) result ≡ taken K.kind (variables format.now) (partial_of (variables format.now) partial) (number_of number) }
 {
     match partial {
-        Partial::None => {
-            if K::figure_count() == 1 {
-                return coefficient(number.first, number.value, 0);
-            }
-            Ok(Got::More(Partial::Figure(number.value, number.first)))
-        }
+        Partial::None if K::figure_count() == 1 => coefficient(number.first, number.value, 0),
+        Partial::None => Ok(Got::More(Partial::Figure(number.value, number.first))),
         Partial::Figure(figure, first) => coefficient(first, figure, number.value),
         Partial::Powers(powers) => power(format, powers, number),
     }

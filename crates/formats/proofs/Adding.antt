@@ -1,6 +1,6 @@
 -- One variable more. Assumes nothing.
 use Rattle.std.proofs.Common.{◌≡◌, ℕ, ◌+◌, ◌<◌, ◌≤◌, Bool, true, false, cond, not, ◌&&◌, ◌||◌, eqb, ltb, leb, List, [], ◌∷◌, ◌++◌, length, take, set, Some, None, Option, sym, refl, ap, ◌∙◌, arith}
-use Rattle.std.proofs.lemmas.List.{length-take-le, take_more_set}
+use Rattle.std.proofs.lemmas.List.{length-set, length-take-le, take_more_set}
 use Rattle.std.proofs.lemmas.Bool.{eqb-false, ne_eqb, leb-false, ltb-false, not-false, not-true, or_parts, or_from, and_parts, and_from, not_from_false}
 use Rattle.refusals.specs.declared.Refusal.{Refusal}
 use Rattle.refusals.specs.declared.Refusal.TheVariants.{Letter, Width, TooWide}
@@ -62,6 +62,9 @@ module _ (es : List Variable) (n x w : ℕ) (long : length es ≡ 8) (added : Ad
 
   pub entries_push : take (n + 1) (set es n (variable x w)) ≡ take n es ++ variable x w ∷ []
   entries_push = take_more_set es n (variable x w) room
+
+  pub push-counted : length (take (n + 1) (set es n (variable x w))) ≡ n + 1
+  push-counted = let r = room in length-take-le (n + 1) (set es n (variable x w)) (omega (arith, length-set es n (variable x w)))
 
   pub push-few : n + 1 ≤ 8
   push-few = let r = room in omega arith

@@ -4,27 +4,29 @@
 --     pack-lt           a key is below two to the power of its bits
 --     unpack-pack       exponents within their fields come back
 --     pack-unpack       a key comes back, but for bits above its fields
---     pack-alone        the key of a variable by itself is a power of two
-use Rattle.std.proofs.Common.{◌≡◌, ℕ, zero, suc, ◌+◌, ◌*◌, ◌/◌, ◌%◌, ◌^◌, ◌<◌, ◌≤◌, true, not, ◌&&◌, ltb, List, [], ◌∷◌, ◌++◌, length, take, drop, replicate, IfOk, Ok, Err, Result, sym, refl, ap, ◌∙◌, subst, mod-eq_of_lt, mul_assoc, mul_comm, add_comm, suc-add, one-mul, zero-mul, arith}
+use Rattle.std.proofs.Common.{◌≡◌, ℕ, zero, suc, ◌+◌, ◌*◌, ◌/◌, ◌%◌, ◌^◌, ◌<◌, ◌≤◌, true, not, ◌&&◌, ltb, List, [], ◌∷◌, ◌++◌, length, take, replicate, IfOk, Ok, Err, Result, sym, refl, ap, ◌∙◌, subst, mod-eq_of_lt, mul_assoc, mul_comm, add_comm, zero-mul, arith}
 use native.Mathlib.Nat.{mul-add-mod_self_right, add-mul-div_right}
 use Rattle.refusals.specs.declared.Refusal.{Refusal}
 use Rattle.refusals.specs.declared.Refusal.TheVariants.{Exponent}
-use Rattle.std.proofs.lemmas.Nat.{pow_pos, pow-add, mod-pow-add, shr_high, mul-add-lt, one_shl}
-use Rattle.std.proofs.lemmas.Bool.{ltb-true, leb-true, lt-ltb, and_parts, false≢true, cond_both, cond-true}
+use Rattle.std.proofs.lemmas.Nat.{pow_pos, pow-add, mod-pow-add, shr_high, mul-add-lt}
+use Rattle.std.proofs.lemmas.Bool.{ltb-true, leb-true, and_parts, false≢true, cond_both}
 use Rattle.formats.specs.Variables.{total, lawful, capital, wide, used}
 use Rattle.formats.specs.Drafts.{variables, Sound}
-use Rattle.formats.specs.Keys.{pack, unpack, within, packed, field, alone, unit}
+use Rattle.formats.specs.Keys.{pack, unpack, within, packed, field}
 use Rattle.formats.specs.declared.format.Format.{Format}
 use Rattle.formats.specs.declared.variable.Variable.{Variable}
-use Rattle.formats.proofs.Walks.{at, total-step}
+use Rattle.formats.proofs.Walks.{at}
 
 pub sound : (f : Format) → Sound (variables f)
 sound f = record {
-  some = let c = f.counted in let s = f.some in omega arith;
-  few = let c = f.counted in let s = f.few in omega arith;
-  ok = f.ok;
-  narrow = f.narrow;
+  some = omega (arith, f.some, f.variables.counted);
+  few = omega (arith, f.variables.few, f.variables.counted);
+  ok = f.variables.ok;
+  narrow = f.variables.narrow;
 }
+
+pub lawful_rest : (v : Variable) (vs : List Variable) → lawful (v ∷ vs) ≡ true → lawful vs ≡ true
+lawful_rest v vs l = (and_parts (not (used v.letter vs)) (lawful vs) (and_parts (capital v.letter && wide v.width) (not (used v.letter vs) && lawful vs) l).1).1
 
 pub width_at : (vs : List Variable) (i : ℕ) → lawful vs ≡ true → i < length vs → (1 ≤ (at vs i).width) × ((at vs i).width ≤ 16)
 width_at [] i l h = absurd (omega arith)
@@ -33,18 +35,7 @@ width_at (v ∷ vs) zero l h =
     let q = and_parts (capital v.letter) (wide v.width) p.0 in
     let r = and_parts _ _ q.1 in
     (leb-true 1 v.width r.0, leb-true v.width 16 r.1)
-width_at (v ∷ vs) (suc i) l h =
-    let p = and_parts (capital v.letter && wide v.width) (not (used v.letter vs) && lawful vs) l in
-    width_at vs i (and_parts (not (used v.letter vs)) (lawful vs) p.1).1 (omega arith)
-
-pub total_drop : (vs : List Variable) (i : ℕ) → total (drop i vs) ≤ total vs
-total_drop vs zero = omega arith
-total_drop [] (suc i) = omega arith
-total_drop (v ∷ vs) (suc i) = omega (arith, total_drop vs i)
-
--- a format has at least a bit
-pub total-some : (vs : List Variable) → Sound vs → 0 < total vs
-total-some vs s = omega (arith, total-step vs 0 s.some, width_at vs 0 s.ok s.some)
+width_at (v ∷ vs) (suc i) l h = width_at vs i (lawful_rest v vs l) (omega arith)
 
 pub pack-lt : (vs : List Variable) (es : List ℕ) → within vs es ≡ true → pack vs es < 2 ^ total vs
 pack-lt [] es h = omega arith
@@ -86,26 +77,8 @@ pack-zeros [] n = refl
 pack-zeros (v ∷ vs) zero = refl
 pack-zeros (v ∷ vs) (suc n) = ap (λ x. x + pack vs (replicate n 0)) (zero-mul (2 ^ total vs)) ∙ omega (arith, pack-zeros vs n)
 
-pub pack-alone : (vs : List Variable) (i : ℕ) → i < length vs → pack vs (alone (length vs) i) ≡ 2 ^ total (drop (i + 1) vs)
-pack-alone [] i h = absurd (omega arith)
-pack-alone (v ∷ vs) zero h = omega (arith, pack-zeros vs (length vs), one-mul (2 ^ total vs))
-pack-alone (v ∷ vs) (suc i) h =
-    let step : drop (suc i + 1) (v ∷ vs) ≡ drop (i + 1) vs = ap (λ n. drop n (v ∷ vs)) (suc-add i 1) in
-    let rest = pack-alone vs i (omega arith) in
-    let none = zero-mul (2 ^ total vs) in
-    let far = ap (λ l. 2 ^ total l) step in
-    omega arith
-
 -- what pack answers, read back
 pub packed-back : (vs : List Variable) (es : List ℕ) (r : Result ℕ Refusal) → r ≡ packed vs es → IfOk r (λ k. unpack vs k ≡ take (length vs) es)
 packed-back vs es r e =
     subst (λ a. IfOk a (λ k. unpack vs k ≡ take (length vs) es)) (sym e)
     (cond_both (within vs es) (Ok (pack vs es)) (Err Exponent) (λ a. IfOk a (λ k. unpack vs k ≡ take (length vs) es)) (λ h. unpack-pack vs es h) (λ _. tt))
-
--- the widths after a variable leave it at least a bit
-pub total-after : (vs : List Variable) (i : ℕ) → Sound vs → i < length vs → total (drop (i + 1) vs) < 64
-total-after vs i s h = omega (arith, total-step vs i h, total_drop vs i, width_at vs i s.ok h, s.narrow)
-
-pub unit-answer : (vs : List Variable) (i shift : ℕ) → Sound vs → i < length vs → shift ≡ total (drop (i + 1) vs) → Ok ((1 * 2 ^ shift) % 2 ^ 64) ≡ unit vs i
-unit-answer vs i shift s h e =
-    ap Ok (one_shl shift 64 (omega (arith, total-after vs i s h)) ∙ ap (λ n. 2 ^ n) e ∙ sym (pack-alone vs i h)) ∙ sym (cond-true (ltb i (length vs)) _ _ (lt-ltb i (length vs) h))

@@ -3,4 +3,5 @@ pub mod Adding
 pub mod Keys
 pub mod Turns
 pub mod Lists
-pub mod Steps
+pub mod Places
+pub mod Arrays

@@ -2,6 +2,7 @@
 --     pack vs es       the key of the exponents es
 --     unpack vs k      the exponents in the key k
 --     field s w k      the w bits of k that lie above the lowest s
+--     places vs        how many bits of a key lie below the field of each variable, and how wide it is
 --     within vs es     whether each exponent is within its field
 --     packed vs es     the key of es, or the refusal of an exponent that is not within its field
 --     replaced vs k v e
@@ -28,6 +29,10 @@ field s w k = (k / 2 ^ s) % 2 ^ w
 abbrev pub unpack : List Variable → ℕ → List ℕ
 unpack [] k = []
 unpack (v ∷ vs) k = field (total vs) v.width k ∷ unpack vs k
+
+abbrev pub places : List Variable → List (ℕ × ℕ)
+places [] = []
+places (v ∷ vs) = (total vs, v.width) ∷ places vs
 
 abbrev pub within : List Variable → List ℕ → Bool
 within [] es = true

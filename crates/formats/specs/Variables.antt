@@ -5,8 +5,9 @@
 --     wide w          whether w is a width from 1 to 16
 --     lawful vs       whether each letter of vs is a capital that no other has, and each width is from 1 to 16
 --     variable x w    the variable with the letter x and the width w
+--     Spans n vs      vs are lawful, and their exponents have n bits together, 64 at most
 --     refusal vs x w  why a variable with the letter x and the width w may not be added to vs, if it may not
-use Rattle.std.specs.Prelude.{ℕ, ◌+◌, Bool, true, false, cond, not, ◌&&◌, ◌||◌, List, [], ◌∷◌, length, Some, None, Option, ◌==◌, nat_le, nat_lt}
+use Rattle.std.specs.Prelude.{◌≡◌, ℕ, ◌+◌, ◌≤◌, Bool, true, false, cond, not, ◌&&◌, ◌||◌, List, [], ◌∷◌, length, Some, None, Option, ◌==◌, nat_le, nat_lt}
 use Rattle.refusals.specs.declared.Refusal.{Refusal}
 use Rattle.refusals.specs.declared.Refusal.TheVariants.{Letter, Width, TooWide}
 use Rattle.formats.specs.declared.variable.Variable.{Variable}
@@ -28,6 +29,11 @@ wide w = nat_le 1 w && nat_le w 16
 abbrev pub lawful : List Variable → Bool
 lawful [] = true
 lawful (v ∷ vs) = (capital v.letter && wide v.width) && (not (used v.letter vs) && lawful vs)
+
+pub record Spans (n : ℕ) (vs : List Variable) : Type 0 where
+  pub ok : lawful vs ≡ true
+  pub bits : n ≡ total vs
+  pub narrow : n ≤ 64
 
 abbrev pub variable : ℕ → ℕ → Variable
 variable x w = record { letter = x; width = w }

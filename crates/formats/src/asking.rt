@@ -5,7 +5,7 @@ ghost use Rattle.formats.specs.Drafts.{variables, Sound};
 ghost use Rattle.formats.specs.Variables.{total};
 
 use crate::format::Format;
-use crate::variable::{Variable, bits, same};
+use crate::variable::{Variable, bits};
 
 impl Format {
     // The variables, in order.
@@ -13,14 +13,14 @@ impl Format {
         ensures list { result.now ≡ variables self.now }
         ensures sound { Sound result.now }
     {
-        &self.entries[0..self.count]
+        self.variables.as_slice()
     }
 
     // How many variables there are.
     pub fn count(&self) -> usize
         ensures { result ≡ length (variables self.now) }
     {
-        self.count
+        self.variables().len()
     }
 
     // How many bits a key has.
@@ -34,18 +34,13 @@ impl Format {
     pub fn variable(&self, number: usize) -> Option<Variable>
         ensures { result ≡ slice_get (variables self.now) number }
     {
-        let variables = self.variables();
-        if number < variables.len() {
-            Some(variables[number])
-        } else {
-            None
-        }
+        self.variables().get(number).copied()
     }
 
     // Whether the two have the same letters and widths in the same order.
     pub fn alike(&self, other: &Format) -> bool
         ensures { Decides result (variables self.now ≡ variables other.now) }
     {
-        same(self.variables(), other.variables())
+        self.variables() == other.variables()
     }
 }

@@ -1,45 +1,69 @@
-// One field of a key, read and changed.
-ghost use Rattle.std.specs.Prelude.{◌≡◌, ◌<◌, ◌≤◌};
+// The fields of a format's keys.
+ghost use Rattle.std.specs.Prelude.{◌≡◌, ℕ, List};
+ghost use Rattle.std.specs.Iterator.{YieldsFirstBy, item_count};
+ghost use Rattle.std.specs.Option.{option_map};
+ghost use Rattle.std.specs.List.{slice_get};
 ghost use Rattle.formats.specs.Drafts.{variables};
-ghost use Rattle.formats.specs.Exponents.{exponent};
-ghost use Rattle.formats.specs.Keys.{field, unpack, replaced};
+ghost use Rattle.formats.specs.Keys.{places};
+ghost use Rattle.formats.specs.Variables.{Spans};
 
+use crate::field::Field;
 use crate::format::Format;
-use crate::variable::bits;
-use refusals::Refusal;
+use crate::variable::{Variable, bits};
+use std::marker::Model;
 
-// The exponent of `width` bits that lies above the lowest `shift` bits of a key.
-pub(crate) fn field_of(key: u64, shift: u32, width: u8) -> u16
-    requires low { shift < 64 }
-    requires narrow { width ≤ 16 }
-    ensures { result ≡ field shift width key }
-{
-    let mask = (1u64 << (width as u32)) - 1;
-    ((key >> shift) & mask) as u16
+// The fields of the variables that are left, which take the lowest `shift` bits of a key.
+#[derive(Drop)]
+pub(crate) struct Fields<'a> {
+    variables: &'a [Variable],
+    shift: u32,
+}
+
+impl<'a> Model for Fields<'a> {
+    ghost Value = { List (ℕ × ℕ) };
+
+    ghost view = { λ f. places f.variables.now };
+
+    ghost invariant = { λ f. Spans f.shift f.variables.now };
+}
+
+impl<'a> Iterator for Fields<'a> {
+    type Item = Field;
+
+    ghost next_gives = { YieldsFirstBy (λ f. (f.shift, f.width)) (λ left. left) };
+
+    ghost remaining = { item_count (λ left. left) };
+
+    fn next(&mut self) -> Option<Field> {
+        let (variable, after) = self.variables.split_first()?;
+        self.variables = after;
+        self.shift -= u32::from(variable.width);
+        Some(Field {
+            shift: self.shift,
+            width: variable.width,
+        })
+    }
 }
 
 impl Format {
-    // The exponent of a variable in a key; 0 if there is no such variable.
-    pub fn exponent(&self, key: u64, variable: usize) -> u16
-        ensures { result ≡ exponent variable (unpack (variables self.now) key) }
+    // The fields of a key, in the order of the variables.
+    pub(crate) fn fields(&self) -> Fields<'_>
+        ensures { result ≡ places (variables self.now) }
     {
-        let variables = self.variables();
-        if variable >= variables.len() {
-            return 0;
+        Fields {
+            variables: self.variables(),
+            shift: self.bits(),
         }
-        let after = &variables[variable + 1..];
-        field_of(key, bits(after), variables[variable].width)
     }
 
-    // The key with another exponent of a variable.
-    pub fn replace(&self, key: u64, variable: usize, exponent: u16) -> Result<u64, Refusal>
-        ensures { result ≡ replaced (variables self.now) key variable exponent }
+    // The field of a variable, if there is such a variable.
+    pub(crate) fn field(&self, variable: usize) -> Option<Field>
+        ensures { option_map (λ f. (f.shift, f.width)) result ≡ slice_get (places (variables self.now)) variable }
     {
-        if variable >= self.count() {
-            return Err(Refusal::Variable);
-        }
-        let mut exponents = self.unpack(key);
-        exponents[variable] = exponent;
-        self.pack(&exponents)
+        let (variable, after) = self.variables().get(variable..)?.split_first()?;
+        Some(Field {
+            shift: bits(after),
+            width: variable.width,
+        })
     }
 }

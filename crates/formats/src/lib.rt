@@ -7,10 +7,13 @@ mod degrees;
 mod differences;
 mod draft;
 mod drafting;
+mod exponents;
+mod field;
 mod fields;
 mod format;
 mod packing;
 mod variable;
+mod variables;
 
 pub use draft::Draft;
 pub use format::Format;

@@ -2,7 +2,6 @@
 --     small a       whether the magnitude of a is at most 1,073,741,823
 --     fits z        whether both parts of z are small
 --     Below k a     the magnitude of a is below 2^k: k is 30 of what fits, 60 of a product and 61 of two, added or subtracted
---     Parts k v     both parts of the content v are below 2^k
 --     number v      the Gaussian integer with the parts of the content v
 --     of z          the content with the parts of z
 --     held v        the Gaussian integer that the content v means: the one with its parts if that fits, else 0
@@ -27,10 +26,6 @@ fits z = small z.real && small z.imaginary
 
 abbrev pub Below : ℕ → ℤ → Type 0
 Below k a = unsigned_abs a < 2 ^ k
-
-pub record Parts (k : ℕ) (v : Gaussian) : Type 0 where
-  pub real : Below k v.real
-  pub imaginary : Below k v.imaginary
 
 abbrev pub number : Gaussian → Number
 number v = record { real = v.real; imaginary = v.imaginary }

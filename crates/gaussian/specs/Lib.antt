@@ -1,2 +1,3 @@
 pub mod Gaussian
+pub mod Member
 pub mod Laws

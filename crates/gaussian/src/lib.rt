@@ -2,6 +2,7 @@
 #![tactic(auto)]
 
 mod domain;
+mod member;
 mod product;
 mod quotient;
 mod ring;

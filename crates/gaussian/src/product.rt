@@ -1,11 +1,14 @@
 // Products of Gaussian integers that fit.
 ghost use Rattle.std.specs.Prelude.{◌≡◌, ◌*ℤ◌};
-ghost use Rattle.rings.specs.Gaussian.{product, conjugate, norm};
-ghost use Rattle.gaussian.specs.Gaussian.{number, Below, Parts};
+ghost use Rattle.rings.specs.Gaussian.{product, norm};
+ghost use Rattle.gaussian.specs.Gaussian.{number, Below};
+ghost use Rattle.gaussian.specs.Member.{meant};
 
+use crate::member::Member;
 use crate::value::Gaussian;
 
 // The product of two parts.
+#[tactic(auto, using(crate::proofs::Words::words))]
 pub(crate) fn part_product(a: i64, b: i64) -> i64
     requires first { Below 30 a }
     requires second { Below 30 b }
@@ -15,32 +18,19 @@ pub(crate) fn part_product(a: i64, b: i64) -> i64
     a * b
 }
 
-pub(crate) fn product_of(z: Gaussian, w: Gaussian) -> Gaussian
-    requires first { Parts 30 z }
-    requires second { Parts 30 w }
-    ensures is { number result ≡ product (number z) (number w) }
-    ensures below { Parts 61 result }
-{
-    let real = part_product(z.real, w.real) - part_product(z.imaginary, w.imaginary);
-    let imaginary = part_product(z.real, w.imaginary) + part_product(z.imaginary, w.real);
-    Gaussian { real, imaginary }
-}
-
-pub(crate) fn conjugate_of(w: Gaussian) -> Gaussian
-    requires { Parts 30 w }
-    ensures is { number result ≡ conjugate (number w) }
-    ensures below { Parts 30 result }
+#[tactic(auto, using(crate::proofs::Words::words))]
+pub(crate) fn product_of(z: Member, w: Member) -> Gaussian
+    ensures { number result ≡ product (meant z) (meant w) }
 {
     Gaussian {
-        real: w.real,
-        imaginary: -w.imaginary,
+        real: part_product(z.real, w.real) - part_product(z.imaginary, w.imaginary),
+        imaginary: part_product(z.real, w.imaginary) + part_product(z.imaginary, w.real),
     }
 }
 
-pub(crate) fn norm_of(w: Gaussian) -> i64
-    requires { Parts 30 w }
-    ensures is { result ≡ norm (number w) }
-    ensures below { Below 61 result }
+#[tactic(auto, using(crate::proofs::Words::words))]
+pub(crate) fn norm_of(w: Member) -> i64
+    ensures { result ≡ norm (meant w) }
 {
     part_product(w.real, w.real) + part_product(w.imaginary, w.imaginary)
 }

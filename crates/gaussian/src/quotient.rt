@@ -1,27 +1,35 @@
-// A Gaussian integer divided by a whole number, part by part.
-ghost use Rattle.std.specs.Prelude.{◌≡◌, pos, ◌≢◌};
-ghost use Rattle.gaussian.specs.Gaussian.{number, Below, Parts, shared, shares};
+// The quotient of two Gaussian integers that fit: exact, or refused. It always fits: no part of it is larger than the
+// largest part of the dividend.
+ghost use Rattle.std.specs.Prelude.{◌≡◌, ◌≢◌, cond, pos, ◌<ℤ◌, Ok, Err};
+ghost use Rattle.refusals.specs.declared.Refusal.TheVariants.{NoQuotient};
+ghost use Rattle.rings.specs.Gaussian.{nought};
+ghost use Rattle.gaussian.specs.Gaussian.{number, of, quotient, shared, shares};
+ghost use Rattle.gaussian.specs.Member.{meant};
 
+use crate::member::Member;
+use crate::product::{norm_of, product_of};
 use crate::value::Gaussian;
+use refusals::Refusal;
 
-// Whether neither part leaves a remainder.
-pub(crate) fn is_multiple(z: Gaussian, n: i64) -> bool
-    requires parts { Parts 61 z }
-    requires below { Below 61 n }
-    requires some { n ≢ pos 0 }
-    ensures { result ≡ shares (number z) n }
+// Both parts divided by n, or a refusal where one leaves a remainder.
+#[tactic(auto, using(crate::proofs::Words::divisions))]
+fn shared(z: Gaussian, n: i64) -> Result<Gaussian, Refusal>
+    requires { pos 0 <ℤ n }
+    ensures { result ≡ cond (shares (number z) n) (Ok (of (shared (number z) n))) (Err NoQuotient) }
 {
-    z.real % n == 0 && z.imaginary % n == 0
+    if z.real % n == 0 && z.imaginary % n == 0 {
+        Ok(Gaussian {
+            real: z.real / n,
+            imaginary: z.imaginary / n,
+        })
+    } else {
+        Err(Refusal::NoQuotient)
+    }
 }
 
-pub(crate) fn quotient_of(z: Gaussian, n: i64) -> Gaussian
-    requires parts { Parts 61 z }
-    requires below { Below 61 n }
-    requires some { n ≢ pos 0 }
-    ensures { number result ≡ shared (number z) n }
+pub(crate) fn quotient_of(z: Member, w: Member) -> Result<Gaussian, Refusal>
+    requires { meant w ≢ nought }
+    ensures { result ≡ quotient (meant z) (meant w) }
 {
-    Gaussian {
-        real: z.real / n,
-        imaginary: z.imaginary / n,
-    }
+    shared(product_of(z, w.conjugate()), norm_of(w))
 }

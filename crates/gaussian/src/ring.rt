@@ -4,8 +4,9 @@ ghost use Rattle.gaussian.specs.Gaussian.{gaussians};
 ghost use Rattle.rings.proofs.Gaussian.{gaussian_ring, gaussian_no_zero_divisors};
 ghost use Rattle.gaussian.specs.Laws.{value_laws, figure_laws};
 
+use crate::member::Member;
 use crate::product::{part_product, product_of};
-use crate::value::{Gaussian, member, value};
+use crate::value::Gaussian;
 use refusals::Refusal;
 use rings::Ring;
 
@@ -37,29 +38,26 @@ impl Ring for Gaussian {
     }
 
     fn is_zero(self) -> bool {
-        let z = member(self);
-        z.real == 0 && z.imaginary == 0
+        Member::from(self) == Member::ZERO
     }
 
     fn equals(self, other: Gaussian) -> bool {
-        let z = member(self);
-        let w = member(other);
-        z.real == w.real && z.imaginary == w.imaginary
+        Member::from(self) == Member::from(other)
     }
 
     fn plus(self, other: Gaussian) -> Result<Gaussian, Refusal> {
-        let z = member(self);
-        let w = member(other);
-        value(z.real + w.real, z.imaginary + w.imaginary)
+        let z = Member::from(self);
+        let w = Member::from(other);
+        Gaussian::try_from((z.real + w.real, z.imaginary + w.imaginary))
     }
 
     fn times(self, other: Gaussian) -> Result<Gaussian, Refusal> {
-        let p = product_of(member(self), member(other));
-        value(p.real, p.imaginary)
+        let p = product_of(Member::from(self), Member::from(other));
+        Gaussian::try_from((p.real, p.imaginary))
     }
 
     fn negative(self) -> Gaussian {
-        let z = member(self);
+        let z = Member::from(self);
         Gaussian {
             real: -z.real,
             imaginary: -z.imaginary,
@@ -67,9 +65,9 @@ impl Ring for Gaussian {
     }
 
     fn multiple(self, n: u16) -> Result<Gaussian, Refusal> {
-        let z = member(self);
+        let z = Member::from(self);
         let n = i64::from(n);
-        value(part_product(n, z.real), part_product(n, z.imaginary))
+        Gaussian::try_from((part_product(n, z.real), part_product(n, z.imaginary)))
     }
 
     fn figure_count() -> u8 {
@@ -77,11 +75,11 @@ impl Ring for Gaussian {
     }
 
     fn figures(self) -> (i64, i64) {
-        let z = member(self);
+        let z = Member::from(self);
         (z.real, z.imaginary)
     }
 
     fn from_figures(first: i64, second: i64) -> Result<Gaussian, Refusal> {
-        value(first, second)
+        Gaussian::try_from((first, second))
     }
 }

@@ -1,6 +1,6 @@
-// What is held, and what it means.
+// What is held, and which of it are values.
 ghost use Rattle.std.specs.Prelude.{◌≡◌};
-ghost use Rattle.gaussian.specs.Gaussian.{small, number, held, valued, Parts};
+ghost use Rattle.gaussian.specs.Gaussian.{small, valued};
 
 use refusals::Refusal;
 
@@ -15,34 +15,23 @@ pub struct Gaussian {
 }
 
 // Whether a part fits.
-fn in_range(part: i64) -> bool
+pub(crate) fn in_range(part: i64) -> bool
     ensures { result ≡ small part }
 {
-    -LIMIT <= part && part <= LIMIT
+    (-LIMIT..=LIMIT).contains(&part)
 }
 
-// The value of a Gaussian integer.
-pub(crate) fn value(real: i64, imaginary: i64) -> Result<Gaussian, Refusal>
-    ensures { result ≡ valued (record { real = real; imaginary = imaginary }) }
-{
-    if in_range(real) && in_range(imaginary) {
-        Ok(Gaussian { real, imaginary })
-    } else {
-        Err(Refusal::Unfit)
-    }
-}
+// The value of the Gaussian integer with these parts, real and imaginary.
+impl TryFrom<(i64, i64)> for Gaussian {
+    type Error = Refusal;
 
-// The Gaussian integer that a content means.
-pub(crate) fn member(v: Gaussian) -> Gaussian
-    ensures means { number result ≡ held v }
-    ensures below { Parts 30 result }
-{
-    if in_range(v.real) && in_range(v.imaginary) {
-        v
-    } else {
-        Gaussian {
-            real: 0,
-            imaginary: 0,
+    ghost try_from_gives = { λ parts r. r ≡ valued (record { real = parts.0; imaginary = parts.1 }) };
+
+    fn try_from((real, imaginary): (i64, i64)) -> Result<Gaussian, Refusal> {
+        if in_range(real) && in_range(imaginary) {
+            Ok(Gaussian { real, imaginary })
+        } else {
+            Err(Refusal::Unfit)
         }
     }
 }

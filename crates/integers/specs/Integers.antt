@@ -1,5 +1,6 @@
 -- The kind of the integers.
 --     fits z        whether the magnitude of z is at most 134,217,727
+--     of z          the content whose figure is z
 --     held v        the whole number that the content v means: its figure if that fits, else 0
 --     valued z      the value of z, or Unfit
 --     integers      the kind: the ring of all whole numbers, the values of those that fit, one figure
@@ -14,7 +15,7 @@ use Rattle.integers.specs.declared.Integer.{Integer}
 abbrev pub fits : ℤ → Bool
 fits z = nat_le (unsigned_abs z) 134_217_727
 
-abbrev of : ℤ → Integer
+abbrev pub of : ℤ → Integer
 of z = record { figure = z }
 
 abbrev pub held : Integer → ℤ

@@ -1,7 +1,7 @@
 // The whole numbers of magnitude up to 134,217,727, as a coefficient kind of one figure. A domain.
 #![tactic(auto)]
 
-ghost use Rattle.std.specs.Prelude.{◌≡◌, ◌≤◌, true, unsigned_abs};
+ghost use Rattle.std.specs.Prelude.{◌≡◌, true};
 ghost use Rattle.integers.specs.Integers.{fits, held, valued, integers, divided};
 ghost use Rattle.rings.proofs.Whole.{whole_ring, whole_no_zero_divisors};
 ghost use Rattle.integers.specs.Laws.{value_laws, figure_laws};
@@ -23,26 +23,31 @@ pub struct Integer {
 fn in_range(z: i64) -> bool
     ensures { result ≡ fits z }
 {
-    -LIMIT <= z && z <= LIMIT
+    (-LIMIT..=LIMIT).contains(&z)
 }
 
 // The value of a whole number.
-fn value(z: i64) -> Result<Integer, Refusal>
-    ensures { result ≡ valued z }
-{
-    if in_range(z) {
-        Ok(Integer { figure: z })
-    } else {
-        Err(Refusal::Unfit)
+impl TryFrom<i64> for Integer {
+    type Error = Refusal;
+
+    ghost try_from_gives = { λ z r. r ≡ valued z };
+
+    fn try_from(z: i64) -> Result<Integer, Refusal> {
+        if in_range(z) {
+            Ok(Integer { figure: z })
+        } else {
+            Err(Refusal::Unfit)
+        }
     }
 }
 
 // The whole number that a content means.
-fn member(v: Integer) -> i64
-    ensures means { result ≡ held v }
-    ensures small { unsigned_abs result ≤ 134_217_727 }
-{
-    if in_range(v.figure) { v.figure } else { 0 }
+impl From<Integer> for i64 {
+    ghost from_gives = { λ v z. z ≡ held v };
+
+    fn from(v: Integer) -> i64 {
+        if in_range(v.figure) { v.figure } else { 0 }
+    }
 }
 
 impl Ring for Integer {
@@ -67,29 +72,29 @@ impl Ring for Integer {
     }
 
     fn is_zero(self) -> bool {
-        member(self) == 0
+        i64::from(self) == 0
     }
 
     fn equals(self, other: Integer) -> bool {
-        member(self) == member(other)
+        i64::from(self) == i64::from(other)
     }
 
     fn plus(self, other: Integer) -> Result<Integer, Refusal> {
-        value(member(self) + member(other))
+        Integer::try_from(i64::from(self) + i64::from(other))
     }
 
     fn times(self, other: Integer) -> Result<Integer, Refusal> {
-        value(member(self) * member(other))
+        Integer::try_from(i64::from(self) * i64::from(other))
     }
 
     fn negative(self) -> Integer {
         Integer {
-            figure: -member(self),
+            figure: -i64::from(self),
         }
     }
 
     fn multiple(self, n: u16) -> Result<Integer, Refusal> {
-        value(i64::from(n) * member(self))
+        Integer::try_from(i64::from(n) * i64::from(self))
     }
 
     fn figure_count() -> u8 {
@@ -97,14 +102,14 @@ impl Ring for Integer {
     }
 
     fn figures(self) -> (i64, i64) {
-        (member(self), 0)
+        (i64::from(self), 0)
     }
 
     fn from_figures(first: i64, second: i64) -> Result<Integer, Refusal> {
         if second != 0 {
             return Err(Refusal::Unfit);
         }
-        value(first)
+        Integer::try_from(first)
     }
 }
 
@@ -114,8 +119,8 @@ impl Domain for Integer {
     ghost division = { laws.division_law };
 
     fn divide(self, other: Integer) -> Result<Integer, Refusal> {
-        let a = member(self);
-        let b = member(other);
+        let a = i64::from(self);
+        let b = i64::from(other);
         if b == 0 {
             return Err(Refusal::ZeroDivisor);
         }

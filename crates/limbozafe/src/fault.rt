@@ -9,6 +9,8 @@ pub(crate) enum Fault {
     Missing,
     TooMany,
     NoFormat,
+    File,
+    NoDivision,
 }
 
 impl fmt::Display for Fault {
@@ -20,6 +22,8 @@ impl fmt::Display for Fault {
             Fault::Missing => "a word is missing",
             Fault::TooMany => "a word too many",
             Fault::NoFormat => "no format has been accepted yet",
+            Fault::File => "unknown file",
+            Fault::NoDivision => "words do not divide",
         })
     }
 }

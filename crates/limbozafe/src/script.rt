@@ -1,54 +1,102 @@
 // A script, line by line.
-ghost use Rattle.std.specs.Prelude.{◌≤◌, length};
+ghost use Rattle.std.specs.Prelude.{◌≡◌, ◌<◌, ◌≤◌, ◌↔◌, ◌⊎◌, [], ◌∷◌, length, IfSome, IsSome, OnSome};
+ghost use Rattle.std.specs.Bool.{OnTrue};
+ghost use Rattle.limbozafe.specs.Lines.{line, after_line, IsCutAtPoint};
 
+use crate::line_words::Words;
+
+// What is left of a script.
 #[derive(Clone, Copy)]
 pub(crate) struct Script<'a> {
-    pub(crate) text: &'a [u8],
-    // where the next line starts
-    pub(crate) at: usize,
+    pub(crate) rest: &'a [u8],
     // how many lines came before it
     pub(crate) lines: u64,
-    // no command so far was in error
-    pub(crate) faultless: bool,
 }
 
-// The index of the first byte 10 from `from` on, or else the text's length.
-fn line_end(text: &[u8], from: usize) -> usize
-    ensures within { result ≤ length text.now }
-    ensures onward { from ≤ length text.now → from ≤ result }
+// A line of a script.
+#[derive(Clone, Copy)]
+pub(crate) struct Line<'a> {
+    // counted from 1
+    pub(crate) number: u64,
+    pub(crate) words: Words<'a>,
+    // the cards on the lines that follow, if it is a `read` without a file name
+    pub(crate) cards: &'a [u8],
+}
+
+// The first line of a text, with its byte 10, and the text after it.
+fn first_line(text: &[u8]) -> (&[u8], &[u8])
+    ensures first { result.0.now ≡ line text.now }
+    ensures rest { result.1.now ≡ after_line text.now }
 {
-    for i in from..text.len() {
-        if text[i] == b'\n' {
-            return i;
-        }
+    match text.iter().position(|byte| *byte == b'\n') {
+        Some(end) => text.split_at(end + 1),
+        None => (text, &[]),
     }
-    text.len()
 }
 
-// The line without a byte 13 at its end.
-fn without_return(line: &[u8]) -> &[u8] {
+// A line without its byte 10 and a byte 13 right before that.
+fn without_end(line: &[u8]) -> &[u8] {
     match line {
-        [front @ .., b'\r'] => front,
+        [front @ .., b'\r', b'\n'] => front,
+        [front @ .., b'\n'] => front,
         _ => line,
     }
 }
 
+// Whether a line is just a point.
+fn is_point(line: &[u8]) -> bool
+    ensures { OnTrue result ((line.now ≡ 46 ∷ []) ⊎ (line.now ≡ 46 ∷ 10 ∷ [])) }
+{
+    matches!(line, b"." | b".\n")
+}
+
+// Whether cards follow a line: it is a `read` without a file name, right or wrong.
+fn has_cards(mut words: Words) -> bool {
+    matches!(words.next(), Some(b"read")) && words.nth(1).is_none()
+}
+
 impl<'a> Script<'a> {
-    // The next line, without its byte 10 and a byte 13 before that.
-    pub(crate) fn next_line(&mut self) -> Option<&'a [u8]> {
-        let text = self.text;
-        let from = self.at;
-        if from >= text.len() {
+    // The next line, with its byte 10.
+    fn take_line(&mut self) -> Option<&'a [u8]>
+        ensures variant { IsSome result ↔ (0 < length self.old.rest.now) }
+        ensures line { IfSome result (λ l. l.now ≡ line self.old.rest.now) }
+        ensures rest { self.new.rest.now ≡ after_line self.old.rest.now }
+    {
+        if self.rest.is_empty() {
             return None;
         }
-        let to = line_end(text, from);
+        let (line, rest) = first_line(self.rest);
+        self.rest = rest;
         self.lines = self.lines.saturating_add(1);
-        if to < text.len() {
-            self.at = to + 1;
-            Some(without_return(&text[from..to]))
-        } else {
-            self.at = to;
-            Some(&text[from..to])
+        Some(line)
+    }
+
+    // The cards that follow: every byte up to a line that is just a point, or all that is left. That line is taken too.
+    fn cards(&mut self) -> &'a [u8]
+        ensures { IsCutAtPoint self.old.rest.now result.now self.new.rest.now }
+    {
+        let text = self.rest;
+        let mut length = 0;
+        while let Some(line) = self.take_line() {
+            if is_point(line) {
+                return &text[..length];
+            }
+            length += line.len();
         }
+        text
+    }
+
+    // The next line, with the cards that follow it.
+    pub(crate) fn next_line(&mut self) -> Option<Line<'a>>
+        ensures { OnSome result (length self.new.rest.now < length self.old.rest.now) }
+    {
+        let words = Words(without_end(self.take_line()?));
+        let number = self.lines;
+        let cards = if has_cards(words) { self.cards() } else { &[] };
+        Some(Line {
+            number,
+            words,
+            cards,
+        })
     }
 }

@@ -1,157 +1,167 @@
 // A whole script.
-use crate::command::{Command, parse};
+ghost use Rattle.std.specs.Prelude.{◌<◌, length, IfOk, OnSome};
+
+use crate::command::{Command, Request, command_of};
+use crate::console::Console;
 use crate::fault::Fault;
+use crate::kind::Kind;
 use crate::script::Script;
-use crate::settings::Settings;
-use crate::sheet::{answer, perform};
-use crate::words::Words;
 use formats::Format;
+use gaussian::Gaussian;
 use integers::Integer;
+use refusals::Refusal;
+use residues::Residue;
 use rings::Ring;
 use rows::Row;
+use sheets::Sheet;
 use std::io;
-use tables::Sheet;
+use uses::{Divides, Division, NoDivision};
+use words::Word;
 
 // The rows that matter of those that a sheet is opened on: twelve areas of at most 4096.
 const MOST_ROWS: u64 = 49152;
 
-// Why a part of the script stopped.
+// What the next sheet is opened with.
+#[derive(Drop)]
+struct Settings {
+    // the last that was accepted
+    format: Option<Format>,
+    kind: Kind,
+}
+
+impl Settings {
+    // Takes a format, unless it was refused.
+    fn take(&mut self, drafted: Result<Format, Refusal>) -> Result<(), Refusal> {
+        self.format = Some(drafted?);
+        Ok(())
+    }
+}
+
+// A request, with the number of its line and the settings there.
 #[derive(Clone, Copy)]
-enum Stop {
-    // a sheet is to be opened on so many rows; the answer, with the rows of an area, is due if it was asked for
-    Open(u64, bool),
-    End,
+struct Asked<'a> {
+    number: u64,
+    format: Format,
+    kind: Kind,
+    request: Request<'a>,
 }
 
-// The command of a line, if it has one.
-fn command_of<'a>(line: &'a [u8]) -> Result<Option<Command<'a>>, Fault> {
-    let mut words = Words { line, at: 0 };
-    let Some(name) = words.next_word() else {
-        return Ok(None);
-    };
-    if let [b'#', ..] = name {
-        return Ok(None);
-    }
-    let command = parse(name, &mut words)?;
-    words.end()?;
-    Ok(Some(command))
+#[derive(Drop)]
+struct Session<'a> {
+    console: Console<'a>,
+    script: Script<'a>,
+    settings: Settings,
 }
 
-// Prints what is wrong with the last line that was read.
-fn complain(rt: &HostRuntime, script: &mut Script, fault: Fault) -> io::Result<()> {
-    script.faultless = false;
-    let line = script.lines;
-    println!(rt; "error: line {line}: {fault}")
-}
-
-// Takes a format for the next sheet.
-fn take_format(
-    rt: &HostRuntime,
-    script: &mut Script,
-    settings: &mut Settings,
-    words: Words,
-) -> io::Result<()> {
-    match settings.set_format(words) {
-        Ok(refusal) => answer(rt, refusal),
-        Err(fault) => complain(rt, script, fault),
-    }
-}
-
-// Carries out the lines up to the first that needs a sheet.
-fn before_sheet(
-    rt: &HostRuntime,
-    script: &mut Script,
-    settings: &mut Settings,
-) -> io::Result<Stop> {
-    for _ in 0..u64::MAX {
-        let start = *script;
-        let Some(line) = script.next_line() else {
-            break;
-        };
-        match command_of(line) {
-            Err(fault) => complain(rt, script, fault)?,
-            Ok(None) => {}
-            Ok(Some(Command::Kind)) => answer(rt, None)?,
-            Ok(Some(Command::Format(words))) => take_format(rt, script, settings, words)?,
-            Ok(Some(_)) if settings.format.is_none() => complain(rt, script, Fault::NoFormat)?,
-            Ok(Some(Command::Open(rows))) => return Ok(Stop::Open(rows, true)),
-            Ok(Some(Command::Sheet(_))) => {
-                *script = start;
-                return Ok(Stop::Open(MOST_ROWS, false));
+impl<'a> Session<'a> {
+    // Carries out the lines up to the next that is for a sheet.
+    fn next_request(&mut self) -> io::Result<Option<Asked<'a>>>
+        ensures { IfOk result (λ asked. OnSome asked (length self.new.script.rest.now < length self.old.script.rest.now)) }
+    {
+        while let Some(line) = self.script.next_line() {
+            match command_of(line) {
+                Ok(None) => {}
+                Ok(Some(Command::Kind(kind))) => {
+                    self.settings.kind = kind;
+                    self.console.answer(Ok(()))?
+                }
+                Ok(Some(Command::Format(drafted))) => {
+                    let answer = self.settings.take(drafted);
+                    self.console.answer(answer)?
+                }
+                Ok(Some(Command::OnSheet(request))) => match self.settings.format {
+                    Some(format) => {
+                        return Ok(Some(Asked {
+                            number: line.number,
+                            format,
+                            kind: self.settings.kind,
+                            request,
+                        }));
+                    }
+                    None => self.console.complain(line.number, Fault::NoFormat)?,
+                },
+                Err(fault) => self.console.complain(line.number, fault)?,
             }
         }
+        Ok(None)
     }
-    Ok(Stop::End)
-}
 
-// Carries out the lines on a sheet, up to one that opens another.
-fn on_sheet<K: Ring>(
-    rt: &HostRuntime,
-    script: &mut Script,
-    settings: &mut Settings,
-    sheet: &mut Sheet<'_, K>,
-) -> io::Result<Stop> {
-    for _ in 0..u64::MAX {
-        let Some(line) = script.next_line() else {
-            break;
-        };
-        match command_of(line) {
-            Err(fault) => complain(rt, script, fault)?,
-            Ok(None) => {}
-            Ok(Some(Command::Kind)) => answer(rt, None)?,
-            Ok(Some(Command::Format(words))) => take_format(rt, script, settings, words)?,
-            Ok(Some(Command::Open(rows))) => return Ok(Stop::Open(rows, true)),
-            Ok(Some(Command::Sheet(call))) => perform(rt, sheet, call)?,
+    // What is wrong with a request that would open a sheet, if anything is: a line in error opens none, so its file is read
+    // here, and again on the sheet.
+    fn check(&self, asked: &Asked) -> Result<(), Fault> {
+        match asked.request {
+            Request::Divide(_) if asked.kind == Kind::Words => Err(Fault::NoDivision),
+            Request::File(_, name) => self.console.file_text(name).map(|_| ()),
+            _ => Ok(()),
         }
     }
-    Ok(Stop::End)
-}
 
-// Opens a sheet on blank rows, and carries out the lines on it.
-fn with_sheet(
-    rt: &HostRuntime,
-    script: &mut Script,
-    settings: &mut Settings,
-    format: Format,
-    rows: u64,
-    asked: bool,
-) -> io::Result<Stop> {
-    let many = if rows < MOST_ROWS {
-        rows as usize
-    } else {
-        MOST_ROWS as usize
-    };
-    let blank = Row {
-        key: 0,
-        coefficient: Integer { figure: 0 },
-    };
-    let mut lent: Vec<Row<Integer>> = vec![in rt.alloc(); blank; many]?;
-    let mut sheet = Sheet::open(lent.as_mut_slice(), format);
-    if asked {
-        let room = sheet.room();
-        println!(rt; "ok {room}")?;
+    // Carries out the lines up to the first that opens a sheet: an `open`, or a call without one.
+    fn before_sheet(&mut self) -> io::Result<Option<Asked<'a>>> {
+        while let Some(asked) = self.next_request()? {
+            match self.check(&asked) {
+                Ok(()) => return Ok(Some(asked)),
+                Err(fault) => self.console.complain(asked.number, fault)?,
+            }
+        }
+        Ok(None)
     }
-    on_sheet(rt, script, settings, &mut sheet)
+
+    // Opens a sheet of a kind on blank rows, and carries out the lines on it, up to one that opens another.
+    fn on_sheet<K: Ring + Clone, D: Divides<K>>(
+        &mut self,
+        asked: Asked<'a>,
+    ) -> io::Result<Option<Asked<'a>>>
+        ensures { IfOk result (λ next. OnSome next (length self.new.script.rest.now < length self.old.script.rest.now)) }
+    {
+        // no more than `MOST_ROWS`, so `as` below: there is no `From` between the two types
+        let rows = match asked.request {
+            Request::Open(rows) => rows.min(MOST_ROWS),
+            _ => MOST_ROWS,
+        };
+        let blank = Row {
+            key: 0,
+            coefficient: K::zero(),
+        };
+        let mut lent: Vec<Row<K>> = vec![in self.console.rt.alloc(); blank; rows as usize]?;
+        let mut sheet = Sheet::open(lent.as_mut_slice(), asked.format);
+        self.console
+            .carry_out::<K, D>(&mut sheet, asked.number, asked.request)?;
+        while let Some(next) = self.next_request()? {
+            if let Request::Open(_) = next.request {
+                return Ok(Some(next));
+            }
+            self.console
+                .carry_out::<K, D>(&mut sheet, next.number, next.request)?;
+        }
+        Ok(None)
+    }
 }
 
 // Carries out a script, and tells whether no command was in error.
 pub(crate) fn run(rt: &HostRuntime, text: &[u8]) -> io::Result<bool> {
-    let mut script = Script {
-        text,
-        at: 0,
-        lines: 0,
-        faultless: true,
+    let mut session = Session {
+        console: Console {
+            rt,
+            faultless: true,
+        },
+        script: Script {
+            rest: text,
+            lines: 0,
+        },
+        settings: Settings {
+            format: None,
+            kind: Kind::Integers,
+        },
     };
-    let mut settings = Settings { format: None };
-    let mut stop = before_sheet(rt, &mut script, &mut settings)?;
-    for _ in 0..u64::MAX {
-        let Stop::Open(rows, asked) = stop else {
-            break;
+    let mut next = session.before_sheet()?;
+    while let Some(asked) = next {
+        next = match asked.kind {
+            Kind::Integers => session.on_sheet::<Integer, Division>(asked)?,
+            Kind::Residues => session.on_sheet::<Residue, Division>(asked)?,
+            Kind::Pairs => session.on_sheet::<Gaussian, Division>(asked)?,
+            Kind::Words => session.on_sheet::<Word, NoDivision>(asked)?,
         };
-        let Some(format) = settings.format else {
-            break;
-        };
-        stop = with_sheet(rt, &mut script, &mut settings, format, rows, asked)?;
     }
-    Ok(script.faultless)
+    Ok(session.console.faultless)
 }

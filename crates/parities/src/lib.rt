@@ -1,4 +1,5 @@
 // The whole numbers modulo 2: the smallest kind that keeps the laws, as an instance for makers who bring their own.
+// Each method is written out, as theirs will be: with `residues` it has only the helpers and the proofs of `rings` in common.
 #![tactic(auto)]
 
 ghost use Rattle.std.specs.Prelude.{false, refl};
@@ -8,7 +9,7 @@ ghost use Rattle.rings.proofs.Remainders.{remainders_ring, modulo-values, modulo
 ghost use Rattle.std.proofs.lemmas.Bool.{false≢true};
 
 use refusals::Refusal;
-use rings::Ring;
+use rings::{Ring, number_up_to};
 
 // A content whose bit is above 1 is no value: it means the bit's remainder.
 #[derive(Clone, Copy, Debug)]
@@ -52,6 +53,7 @@ impl Ring for Parity {
         })
     }
 
+    #[tactic(auto, using(rings::proofs::Remainders::products))]
     fn times(self, other: Parity) -> Result<Parity, Refusal> {
         Ok(Parity {
             bit: ((u32::from(self.bit) * u32::from(other.bit)) % 2) as u8,
@@ -62,6 +64,7 @@ impl Ring for Parity {
         Parity { bit: self.bit % 2 }
     }
 
+    #[tactic(auto, using(rings::proofs::Remainders::products))]
     fn multiple(self, n: u16) -> Result<Parity, Refusal> {
         Ok(Parity {
             bit: ((u32::from(n) * u32::from(self.bit)) % 2) as u8,
@@ -77,9 +80,7 @@ impl Ring for Parity {
     }
 
     fn from_figures(first: i64, second: i64) -> Result<Parity, Refusal> {
-        if second != 0 || first < 0 || first > 1 {
-            return Err(Refusal::Unfit);
-        }
-        Ok(Parity { bit: first as u8 })
+        let number = number_up_to(1, first, second)?;
+        Ok(Parity { bit: number as u8 })
     }
 }

@@ -1,47 +1,51 @@
 // Why a call was refused. Every refusal of the kernel has one of these causes, and each cause has its number.
 #![tactic(auto)]
 
-ghost use Rattle.std.specs.Prelude.{◌≡◌};
+ghost use Rattle.std.specs.Prelude.{◌≡◌, Some};
+ghost use Rattle.std.specs.Fmt.{decimal};
 ghost use Rattle.refusals.specs.Numbers.{number};
 
-#[derive(Clone, Copy, Debug)]
+use std::error::Error;
+use std::fmt;
+
+#[derive(Clone, Copy, Debug, PartialEq, Eq)]
 pub enum Refusal {
     // the letter is not A to Z, or is in the draft already
-    Letter,
+    Letter = 1,
     // the width is 0, above 16, or missing
-    Width,
+    Width = 2,
     // a ninth variable, or more than 64 bits in all
-    TooWide,
+    TooWide = 3,
     // a draft without variables was closed
-    NoVariables,
+    NoVariables = 4,
     // the place is above 7
-    Place,
+    Place = 5,
     // the variable is not in the format
-    Variable,
+    Variable = 6,
     // the byte may not stand there on a card
-    Byte,
+    Byte = 7,
     // a nineteenth digit
-    Digits,
+    Digits = 8,
     // the text ends before the deck does
-    TextEnds,
+    TextEnds = 9,
     // the coefficient does not fit its kind
-    Unfit,
+    Unfit = 10,
     // the exponent is negative or above its field
-    Exponent,
+    Exponent = 11,
     // more rows than an area holds
-    Rows,
+    Rows = 12,
     // the divisor is zero
-    ZeroDivisor,
+    ZeroDivisor = 13,
     // there is no quotient
-    NoQuotient,
+    NoQuotient = 14,
     // the quotient of two coefficients does not fit its kind
-    QuotientUnfit,
+    QuotientUnfit = 15,
     // the output is too short
-    Output,
+    Output = 16,
     // k is above the count of variables
-    Prefix,
+    Prefix = 17,
     // the host asked for an operation that there is not
-    Operation,
+    Operation = 18,
 }
 
 impl Refusal {
@@ -49,25 +53,17 @@ impl Refusal {
     pub fn number(self) -> u8
         ensures { result ≡ number self }
     {
-        match self {
-            Refusal::Letter => 1,
-            Refusal::Width => 2,
-            Refusal::TooWide => 3,
-            Refusal::NoVariables => 4,
-            Refusal::Place => 5,
-            Refusal::Variable => 6,
-            Refusal::Byte => 7,
-            Refusal::Digits => 8,
-            Refusal::TextEnds => 9,
-            Refusal::Unfit => 10,
-            Refusal::Exponent => 11,
-            Refusal::Rows => 12,
-            Refusal::ZeroDivisor => 13,
-            Refusal::NoQuotient => 14,
-            Refusal::QuotientUnfit => 15,
-            Refusal::Output => 16,
-            Refusal::Prefix => 17,
-            Refusal::Operation => 18,
-        }
+        self as u8
     }
 }
+
+// Writes the number.
+impl fmt::Display for Refusal {
+    ghost output = { λ c. Some (decimal (number c)) };
+
+    fn fmt<W: fmt::Write>(&self, f: &mut fmt::Formatter<W>) -> fmt::Result {
+        self.number().fmt(f)
+    }
+}
+
+impl Error for Refusal {}

@@ -8,7 +8,7 @@ ghost use Rattle.residues.specs.Laws as laws;
 
 use crate::reciprocals::RECIPROCALS;
 use refusals::Refusal;
-use rings::{Domain, Ring};
+use rings::{Domain, Ring, number_up_to};
 
 mod reciprocals;
 
@@ -19,26 +19,30 @@ pub struct Residue {
 }
 
 // The value of a whole number's class.
-fn value(n: u32) -> Residue
-    ensures { result ≡ of (n % 257) }
-{
-    Residue {
-        number: (n % 257) as u16,
+impl From<u32> for Residue {
+    ghost from_gives = { λ n r. r ≡ of (n % 257) };
+
+    fn from(n: u32) -> Residue {
+        Residue {
+            number: (n % 257) as u16,
+        }
     }
 }
 
 // The number from 0 to 256 that a content means.
-fn member(v: Residue) -> u16
-    ensures { result ≡ v.number % 257 }
-{
-    v.number % 257
+impl From<Residue> for u16 {
+    ghost from_gives = { λ v n. n ≡ v.number % 257 };
+
+    fn from(v: Residue) -> u16 {
+        v.number % 257
+    }
 }
 
 // The value of a product.
 fn product(a: u16, b: u16) -> Residue
     ensures { result ≡ of ((a * b) % 257) }
 {
-    value(u32::from(a) * u32::from(b))
+    Residue::from(u32::from(a) * u32::from(b))
 }
 
 impl Ring for Residue {
@@ -63,25 +67,28 @@ impl Ring for Residue {
     }
 
     fn is_zero(self) -> bool {
-        member(self) == 0
+        u16::from(self) == 0
     }
 
     fn equals(self, other: Residue) -> bool {
-        member(self) == member(other)
+        u16::from(self) == u16::from(other)
     }
 
     fn plus(self, other: Residue) -> Result<Residue, Refusal> {
-        Ok(value(u32::from(self.number) + u32::from(other.number)))
+        let sum = u32::from(self.number) + u32::from(other.number);
+        Ok(Residue::from(sum))
     }
 
+    #[tactic(auto, using(rings::proofs::Remainders::products))]
     fn times(self, other: Residue) -> Result<Residue, Refusal> {
         Ok(product(self.number, other.number))
     }
 
     fn negative(self) -> Residue {
-        value(u32::from(257 - member(self)))
+        Residue::from(u32::from(257 - u16::from(self)))
     }
 
+    #[tactic(auto, using(rings::proofs::Remainders::products))]
     fn multiple(self, n: u16) -> Result<Residue, Refusal> {
         Ok(product(n, self.number))
     }
@@ -91,15 +98,13 @@ impl Ring for Residue {
     }
 
     fn figures(self) -> (i64, i64) {
-        (i64::from(member(self)), 0)
+        (i64::from(u16::from(self)), 0)
     }
 
     fn from_figures(first: i64, second: i64) -> Result<Residue, Refusal> {
-        if second != 0 || first < 0 || first > 256 {
-            return Err(Refusal::Unfit);
-        }
+        let number = number_up_to(256, first, second)?;
         Ok(Residue {
-            number: first as u16,
+            number: number as u16,
         })
     }
 }
@@ -119,7 +124,7 @@ impl Domain for Residue {
     ghost division = { laws.division_law };
 
     fn divide(self, other: Residue) -> Result<Residue, Refusal> {
-        let divisor = member(other);
+        let divisor = u16::from(other);
         if divisor == 0 {
             return Err(Refusal::ZeroDivisor);
         }

@@ -1,5 +1,5 @@
 -- What a value tells that is held if a test passes, and refused as Unfit if not. Assumes nothing.
-use Rattle.std.proofs.Common.{◌≡◌, ℕ, Bool, true, false, cond, is_ok, Ok, Err, Result, refl, arith}
+use Rattle.std.proofs.Common.{◌≡◌, ℕ, Bool, true, false, ◌&&◌, cond, is_ok, Ok, Err, Result, refl, arith}
 use Rattle.refusals.specs.declared.Refusal.{Refusal}
 use Rattle.refusals.specs.declared.Refusal.TheVariants.{Unfit}
 
@@ -17,3 +17,9 @@ tested_err false x c e = (cc, refl)
 pub tested_is_ok : {V : Type 0} (t : Bool) (x : V) → is_ok (tested t x) ≡ t
 tested_is_ok true x = refl
 tested_is_ok false x = refl
+
+pub tested-tested : {V : Type 0} (s t : Bool) (x : V) → cond s (tested t x) (Err Unfit) ≡ tested (t && s) x
+tested-tested true true x = refl
+tested-tested true false x = refl
+tested-tested false true x = refl
+tested-tested false false x = refl

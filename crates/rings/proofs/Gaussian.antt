@@ -1,13 +1,13 @@
 -- The Gaussian integers are a commutative ring without zero divisors, and a quotient of them is found by the norm of the divisor. Assumes nothing.
 use Rattle.std.proofs.Common.{◌≡◌, ℕ, zero, suc, ◌+◌, ◌*◌, ◌<◌, ◌≤◌, ◌⊎◌, ℤ, pos, negsuc, ◌+ℤ◌, ◌-ℤ◌, ◌*ℤ◌, neg_ℤ, nat_abs, Decides, sym, refl, ap, ◌∙◌, inl, inr, ⊎_elim, mul-le-mul_right, mul-le-mul, arith}
 use lib.IntN.{+ℤ_assoc, +ℤ_comm, +ℤ_idr, +ℤ_invr, *ℤ_comm}
-use Rattle.std.proofs.lemmas.Int.{ints}
+use Rattle.std.proofs.lemmas.Int.{ints, unsigned_abs-mul}
 use Rattle.std.proofs.lemmas.Bool.{cases_lt}
 use Rattle.std.proofs.lemmas.Bool.Decides.{Decides-and, Decides-like}
 use Rattle.rings.specs.Members.{RingLaws, NoZeroDivisors, copies}
 use Rattle.rings.specs.Gaussian.{Number, sum, product, alike, nought, conjugate, norm, scaled, gaussian}
 use Rattle.rings.specs.Whole.{sameℤ, whole}
-use Rattle.rings.proofs.Whole.{plus_times, times_plus, negative-times, times_assoc, same-decides, whole_ring, whole_no_zero_divisors, copies-times, nat_abs_negative, nat_abs_times, zero_from_nat_abs, zero_or_positive}
+use Rattle.rings.proofs.Whole.{plus_times, times_plus, negative-times, times_assoc, same-decides, whole_ring, whole_no_zero_divisors, copies-times, nat_abs_negative, zero_from_nat_abs, zero_or_positive}
 
 times-negative : (m k : ℤ) → m *ℤ neg_ℤ k ≡ neg_ℤ (m *ℤ k)
 times-negative m k = *ℤ_comm m (neg_ℤ k) ∙ negative-times k m ∙ ap neg_ℤ (*ℤ_comm k m)
@@ -187,7 +187,7 @@ bounded : (l : ℕ) (q u v : ℤ) (a b c d n : ℕ) → a ≤ l → b ≤ l → 
 bounded l q u v a b c d n p r eu ev some en e =
     ⊎_elim
     (λ h.
-    let whole = nat_abs_times q (pos n) in
+    let whole = unsigned_abs-mul q (pos n) in
     let parts = ap nat_abs e in
     let large = mul-le-mul_right n h in
     absurd (omega (arith, nat_abs_sum u v, mul-le-mul p (at_most_square c), mul-le-mul r (at_most_square d), ap (λ k. l * k) en)))
@@ -202,10 +202,10 @@ quotient-small l q z w r s apart e =
     let some : 0 < n = ⊎_elim (λ h. absurd (apart (only_zero_has_norm_zero w h))) (λ h. omega (arith, ap nat_abs (norm-natural w))) (zero_or_positive (norm w)) in
     let parts = quotient_parts q z w e in (
       bounded l q.real (z.real *ℤ w.real) (neg_ℤ (z.imaginary *ℤ neg_ℤ w.imaginary)) (nat_abs z.real) (nat_abs z.imaginary) c d n r s
-          (nat_abs_times z.real w.real) (nat_abs_negative (z.imaginary *ℤ neg_ℤ w.imaginary) ∙ by_negative z.imaginary w.imaginary) some refl (ap (λ m. q.real *ℤ m) (sym (norm-natural w)) ∙ parts.0),
+          (unsigned_abs-mul z.real w.real) (nat_abs_negative (z.imaginary *ℤ neg_ℤ w.imaginary) ∙ by_negative z.imaginary w.imaginary) some refl (ap (λ m. q.real *ℤ m) (sym (norm-natural w)) ∙ parts.0),
       bounded l q.imaginary (z.real *ℤ neg_ℤ w.imaginary) (z.imaginary *ℤ w.real) (nat_abs z.real) (nat_abs z.imaginary) d c n r s
-          (by_negative z.real w.imaginary) (nat_abs_times z.imaginary w.real) some (omega arith) (ap (λ m. q.imaginary *ℤ m) (sym (norm-natural w)) ∙ parts.1),
+          (by_negative z.real w.imaginary) (unsigned_abs-mul z.imaginary w.real) some (omega arith) (ap (λ m. q.imaginary *ℤ m) (sym (norm-natural w)) ∙ parts.1),
     )
   where
     by_negative : (x y : ℤ) → nat_abs (x *ℤ neg_ℤ y) ≡ nat_abs x * nat_abs y
-    by_negative x y = nat_abs_times x (neg_ℤ y) ∙ ap (λ m. nat_abs x * m) (nat_abs_negative y)
+    by_negative x y = unsigned_abs-mul x (neg_ℤ y) ∙ ap (λ m. nat_abs x * m) (nat_abs_negative y)

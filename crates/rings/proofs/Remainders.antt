@@ -1,13 +1,13 @@
 -- The whole numbers modulo m are a commutative ring for every m from 2 up, and a kind that holds them keeps the laws of a kind. Assumes nothing.
-use Rattle.std.proofs.Common.{◌≡◌, ℕ, zero, suc, ◌+◌, ◌-◌, ◌*◌, ◌/◌, ◌%◌, ◌^◌, ◌<◌, ◌≤◌, Bool, true, false, cond, ℤ, pos, negsuc, nat_abs, is_ok, Ok, Err, Result, sym, refl, ap, ◌∙◌, inl, inr, ⊎_elim, add-zero, add_assoc, mod-lt, mod-eq_of_lt, mul_assoc, suc-mul, mul_comm, add-mul, add_comm, mul-zero, zero-mul, mul-one, mul-add, arith, le→leb}
+use Rattle.std.proofs.Common.{◌≡◌, ℕ, zero, suc, ◌+◌, ◌-◌, ◌*◌, ◌/◌, ◌%◌, ◌^◌, ◌<◌, ◌≤◌, true, ℤ, pos, negsuc, nat_abs, Ok, Err, Result, sym, refl, ap, ◌∙◌, inl, inr, ⊎_elim, add-zero, add_assoc, mod-lt, mod-eq_of_lt, mul_assoc, suc-mul, mul_comm, add-mul, add_comm, mul-zero, zero-mul, mul-one, mul-add, arith, le→leb}
 use mathlib.Core.HLevel.{is_prop→PathP}
 use native.Mathlib.Nat.{ℕ_set, zero-mod, mod_self, mod-add-mod, add-mod-mod, mod-add-div, add-mul-mod_self_left}
 use lib.Signed.{le_z, le_z_yes}
-use Rattle.std.proofs.lemmas.Bool.{eqb-true, eq-eqb, leb-true, le-leb, cond-true, cond-false, cases_Bool, cases_cond, cases_eq, false≢true, and_parts, and_from}
+use Rattle.std.proofs.lemmas.Bool.{eqb-true, eq-eqb, leb-true, le-leb, cond-true, cases_eq, false≢true, and_parts, and_from}
 use Rattle.refusals.specs.declared.Refusal.{Refusal}
-use Rattle.refusals.specs.declared.Refusal.TheVariants.{Unfit}
 use Rattle.rings.specs.Members.{RingLaws, NoZeroDivisors, copies}
 use Rattle.rings.specs.Kinds.{Within, ValueLaws, FigureLaws}
+use Rattle.rings.proofs.Fitting.{tested-ok, tested_err, tested_is_ok}
 use Rattle.rings.specs.Remainders.{Class, class, remainders, limits, figured, modulo}
 
 -- a remainder may be taken of a factor first
@@ -61,6 +61,9 @@ copies-class m (suc n) a =
 pub copies-number : (m n k : ℕ) → (copies (remainders m) n (class m k)).number ≡ (n * k) % m
 copies-number m n k = ap (λ c. c.number) (copies-class m n (class m k)) ∙ times-mod-mod n k m
 
+-- what `times` and `multiple` of such a kind answer, for their checks
+pub ruleset products = (times_mods, copies-number)
+
 -- ---- reciprocals
 times_zero : {m : ℕ} (a : Class m) → (remainders m).times a (class m 0) ≡ class m 0
 times_zero {m} a = class_path _ _ (times-mod-mod a.number 0 m ∙ ap (λ x. x % m) (mul-zero a.number))
@@ -81,10 +84,6 @@ reciprocals_no_zero_divisors m p reciprocal rule a b e = ⊎_elim (λ z. inl (cl
         ∙ laws.times_assoc (reciprocal a) a b ∙ ap (times (reciprocal a)) e ∙ times_zero (reciprocal a)
 
 -- ---- the kind
-is_ok_cond : {V : Type 0} (t : Bool) (v : V) → is_ok {E = Refusal} (cond t (Ok v) (Err Unfit)) ≡ t
-is_ok_cond true v = refl
-is_ok_cond false v = refl
-
 no_value : {V : Type 0} {c : Refusal} {v : V} → ◌≡◌ {A = Result V Refusal} (Ok v) (Err c) → ⊥
 no_value h = let n : ◌≡◌ {A = ℕ} 0 1 = cc in omega arith
 
@@ -112,17 +111,15 @@ module _ {V : Type 0} (m : ℕ) (p : 1 < m) (of : ℕ → V) (number : V → ℕ
 
   made : (a b : ℤ) (v : V) → figured m of a b ≡ Ok v → Made a b v
   unfolding Made
-  made a b v e = ⊎_elim passed (λ f. absurd (no_value (sym e ∙ cond-false (Within (limits m) a b) _ _ f))) (cases_Bool (Within (limits m) a b))
-    where
-      passed : Within (limits m) a b ≡ true → Made a b v
-      passed t =
-          let both = and_parts _ _ t in
-          let l = and_parts _ _ both.0 in
-          let r = and_parts _ _ both.1 in
-          let x = nonnegative a (m - 1) l.0 l.1 in
-          let y = nonnegative b 0 r.0 r.1 in
-          let z : nat_abs b ≡ 0 = omega arith in
-          (same (sym (cond-true (Within (limits m) a b) _ _ t) ∙ e), x.0, x.1, y.0 ∙ ap pos z)
+  made a b v e =
+      let held = tested-ok (Within (limits m) a b) (of (nat_abs a)) v e in
+      let both = and_parts _ _ held.1 in
+      let l = and_parts _ _ both.0 in
+      let r = and_parts _ _ both.1 in
+      let x = nonnegative a (m - 1) l.0 l.1 in
+      let y = nonnegative b 0 r.0 r.1 in
+      let z : nat_abs b ≡ 0 = omega arith in
+      (held.0, x.0, x.1, y.0 ∙ ap pos z)
 
   within : (n : ℕ) → n < m → Within (limits m) (pos n) (pos 0) ≡ true
   within n h = and_from _ _ (and_from _ _ (le-leb 0 n (omega arith)) (le-leb n (m - 1) (omega arith))) refl
@@ -131,15 +128,12 @@ module _ {V : Type 0} (m : ℕ) (p : 1 < m) (of : ℕ → V) (number : V → ℕ
   unfolding Made
   modulo-figures q = record {
     counted = inl (refl, refl, refl, (le_z_yes tt, le_z_yes (le→leb (m - 1) (10 ^ 18 - 1) (omega arith)), le_z_yes tt, le_z_yes tt));
-    within = λ a b. is_ok_cond (Within (limits m) a b) (of (nat_abs a));
-    unfit = λ a b c e. ⊎_elim (λ h. absurd (no_value (sym h))) cause (cases_cond (Within (limits m) a b) _ _ _ (sym e));
+    within = λ a b. tested_is_ok (Within (limits m) a b) (of (nat_abs a));
+    unfit = λ a b c e. (tested_err (Within (limits m) a b) (of (nat_abs a)) c e).0;
     made = λ a b v e. ap (λ n. Ok (of n)) (means a b v (made a b v e)) ∙ ap Ok (sym (made a b v e).0);
     again = λ v. cond-true _ _ _ (within (number v % m) (mod-lt (number v) (omega arith)));
     zeros = λ a b v e z. let d = made a b v e in (d.1 ∙ ap pos (sym (means a b v d) ∙ ap (λ c. c.number) z ∙ zero-mod m), d.3);
   }
     where
-      cause : {c : Refusal} → ◌≡◌ {A = Result V Refusal} (Err c) (Err Unfit) → c ≡ Unfit
-      cause h = cc
-
       means : (a b : ℤ) (v : V) → Made a b v → number v % m ≡ nat_abs a
       means a b v d = ap (λ w. number w % m) d.0 ∙ ap (λ n. n % m) (holds (nat_abs a)) ∙ mod-eq_of_lt (let h = d.2 in omega arith)

@@ -1,9 +1,10 @@
 -- The whole numbers are a commutative ring without zero divisors. Assumes nothing.
-use Rattle.std.proofs.Common.{◌≡◌, ℕ, zero, suc, ◌+◌, ◌*◌, ◌/◌, ◌%◌, ◌<◌, ◌≤◌, ◌⊎◌, ℤ, pos, negsuc, ◌+ℤ◌, ◌-ℤ◌, ◌*ℤ◌, neg_ℤ, nat_abs, Decides, sym, refl, ap, ◌∙◌, inl, inr, ⊎_elim, mul-pos, div-add-mod', div-le_self, arith}
+use Rattle.std.proofs.Common.{◌≡◌, ℕ, zero, suc, ◌%◌, ◌<◌, ◌≤◌, ◌⊎◌, ℤ, pos, negsuc, ◌+ℤ◌, ◌-ℤ◌, ◌*ℤ◌, neg_ℤ, nat_abs, Decides, sym, refl, ap, ◌∙◌, inl, inr, ⊎_elim, mul-pos, div-le_self, arith}
 use native.Mathlib.Nat.{mul-mod_left}
-use lib.IntN.{neg_ℤ-neg_ℤ, suc_ℤ, pred_ℤ, +ℤ_assoc, +ℤ_comm, +ℤ_idl, +ℤ_idr, +ℤ_invr, suc_ℤ-+ℤ, pred_ℤ-+ℤ, suc_ℤ-*ℤ, pred_ℤ-*ℤ, zero-*ℤ, *ℤ_comm, *ℤ-one, one, pos-ne-negsuc}
+use lib.IntN.{suc_ℤ, pred_ℤ, +ℤ_assoc, +ℤ_comm, +ℤ_idl, +ℤ_idr, +ℤ_invr, suc_ℤ-+ℤ, pred_ℤ-+ℤ, suc_ℤ-*ℤ, pred_ℤ-*ℤ, zero-*ℤ, *ℤ_comm, *ℤ-one, one, pos-ne-negsuc}
 use lib.Signed.{quot_z, rem_z}
 use Rattle.std.proofs.lemmas.Bool.{eqb-true, eq-eqb, false≢true}
+use Rattle.std.proofs.lemmas.Int.{quot-rem, unsigned_abs-mul}
 use Rattle.rings.specs.Members.{RingLaws, NoZeroDivisors, copies}
 use Rattle.rings.specs.Whole.{sameℤ, whole}
 
@@ -77,12 +78,6 @@ nat_abs_negative (pos zero) = refl
 nat_abs_negative (pos (suc n)) = refl
 nat_abs_negative (negsuc n) = refl
 
-pub nat_abs_times : (a b : ℤ) → nat_abs (a *ℤ b) ≡ nat_abs a * nat_abs b
-nat_abs_times (pos a) (pos b) = refl
-nat_abs_times (pos a) (negsuc b) = nat_abs_negative (pos (a * suc b))
-nat_abs_times (negsuc a) (pos b) = nat_abs_negative (pos (suc a * b))
-nat_abs_times (negsuc a) (negsuc b) = refl
-
 pub zero_or_positive : (z : ℤ) → (z ≡ pos 0) ⊎ (0 < nat_abs z)
 zero_or_positive (pos zero) = inl refl
 zero_or_positive (pos (suc n)) = inr (omega arith)
@@ -91,7 +86,7 @@ zero_or_positive (negsuc n) = inr (omega arith)
 pub whole_no_zero_divisors : NoZeroDivisors whole
 whole_no_zero_divisors a b e =
     ⊎_elim inl
-    (λ p. ⊎_elim inr (λ q. let n = sym (nat_abs_times a b) ∙ ap nat_abs e in let m = mul-pos p q in absurd (omega arith)) (zero_or_positive b))
+    (λ p. ⊎_elim inr (λ q. let n = sym (unsigned_abs-mul a b) ∙ ap nat_abs e in let m = mul-pos p q in absurd (omega arith)) (zero_or_positive b))
     (zero_or_positive a)
 
 nat_abs_remainder : (a b : ℤ) → nat_abs (rem_z a b) ≡ nat_abs a % nat_abs b
@@ -104,20 +99,11 @@ zero_from_nat_abs z e = ⊎_elim (λ h. h) (λ h. absurd (omega arith)) (zero_or
 -- a product divides without a remainder
 pub remainder_of_product : (q a b : ℤ) → q *ℤ b ≡ a → rem_z a b ≡ pos 0
 remainder_of_product q a b e =
-    zero_from_nat_abs (rem_z a b) (nat_abs_remainder a b ∙ ap (λ n. n % nat_abs b) (sym (ap nat_abs e) ∙ nat_abs_times q b) ∙ mul-mod_left (nat_abs q) (nat_abs b))
+    zero_from_nat_abs (rem_z a b) (nat_abs_remainder a b ∙ ap (λ n. n % nat_abs b) (sym (ap nat_abs e) ∙ unsigned_abs-mul q b) ∙ mul-mod_left (nat_abs q) (nat_abs b))
 
 -- without a remainder, the quotient toward zero is exact
-exact_ℕ : (a b : ℕ) → a % b ≡ 0 → a / b * b ≡ a
-exact_ℕ a b e = let d = div-add-mod' a b in omega arith
-
 pub quotient-exact : (a b : ℤ) → rem_z a b ≡ pos 0 → quot_z a b *ℤ b ≡ a
-quotient-exact (pos a) (pos b) e = ap pos (exact_ℕ a b (ap nat_abs e))
-quotient-exact (pos a) (negsuc b) e =
-    negative-times (pos (a / suc b)) (negsuc b) ∙ neg_ℤ-neg_ℤ (pos (a / suc b * suc b)) ∙ ap pos (exact_ℕ a (suc b) (ap nat_abs e))
-quotient-exact (negsuc a) (pos b) e =
-    negative-times (pos (suc a / b)) (pos b) ∙ ap (λ n. neg_ℤ (pos n)) (exact_ℕ (suc a) b (sym (nat_abs_remainder (negsuc a) (pos b)) ∙ ap nat_abs e))
-quotient-exact (negsuc a) (negsuc b) e =
-    ap (λ n. neg_ℤ (pos n)) (exact_ℕ (suc a) (suc b) (sym (nat_abs_remainder (negsuc a) (negsuc b)) ∙ ap nat_abs e))
+quotient-exact a b e = sym (+ℤ_idr (quot_z a b *ℤ b)) ∙ ap (λ r. quot_z a b *ℤ b +ℤ r) (sym e) ∙ quot-rem a b
 
 -- the quotient toward zero is no larger than the dividend
 pub nat_abs_quotient : (a b : ℤ) → nat_abs (quot_z a b) ≤ nat_abs a

@@ -3,3 +3,4 @@ pub mod Kinds
 pub mod Whole
 pub mod Remainders
 pub mod Gaussian
+pub mod Figures

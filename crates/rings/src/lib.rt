@@ -2,9 +2,11 @@
 #![tactic(auto)]
 
 mod domain;
+mod figures;
 mod ring;
 mod values;
 
 pub use domain::Domain;
+pub use figures::{Figures, number_up_to};
 pub use ring::Ring;
 pub use values::tells_apart;

@@ -37,11 +37,13 @@ pub trait Ring: Copy {
     fn multiple(self, n: u16) -> Result<Self, Refusal>
         ensures { result ≡ kind.value (copies kind.ops n (kind.meaning self)) };
 
-    // How many figures write a value: one or two.
+    // How many figures write a value: one or two. A function of the kind, since a card's reader wants the count before it
+    // has a value.
     fn figure_count() -> u8
         ensures { result ≡ kind.count };
 
-    // The figures that write the value; the second is 0 where the kind has one.
+    // The figures that write the value; the second is 0 where the kind has one. A pair whatever the count, since rows of
+    // every kind are shown, and read back by `from_figures`, as two numbers.
     fn figures(self) -> (i64, i64)
         ensures { result ≡ (kind.first self, kind.second self) };
 

@@ -2,6 +2,7 @@
 --     length_put       the length stays
 --     put-push         one more element
 --     put-none, put_one, put_all     no element, one, or as many as there are
+--     put_is           how such a list is told
 --     part-put         the part that was written
 --     part-put-apart   a part that was not
 --     put-over         what is written over is gone
@@ -51,7 +52,7 @@ module _ {X : Type 0} (xs : List X) (at : ℕ) (ys : List X) (fits : at + length
       ∙ ap (λ m. take at xs ++ ((ys ++ x ∷ []) ++ drop m xs)) end
 
 -- two lists that agree at each place below, within and past what was written
-put_is : {X : Type 0} (xs : List X) (at : ℕ) (ys : List X) (fits : at + length ys ≤ length xs) (zs : List X) → length zs ≡ length xs → ((k : ℕ) (d : X) → k < at → get_or zs k d ≡ get_or xs k d) → ((k : ℕ) (d : X) → k < length ys → get_or zs (at + k) d ≡ get_or ys k d) → ((k : ℕ) (d : X) → at + length ys ≤ k → get_or zs k d ≡ get_or xs k d) → zs ≡ put xs at ys
+pub put_is : {X : Type 0} (xs : List X) (at : ℕ) (ys : List X) (fits : at + length ys ≤ length xs) (zs : List X) → length zs ≡ length xs → ((k : ℕ) (d : X) → k < at → get_or zs k d ≡ get_or xs k d) → ((k : ℕ) (d : X) → k < length ys → get_or zs (at + k) d ≡ get_or ys k d) → ((k : ℕ) (d : X) → at + length ys ≤ k → get_or zs k d ≡ get_or xs k d) → zs ≡ put xs at ys
 put_is xs at ys fits zs long before within after =
     same_lists zs (put xs at ys) (long ∙ sym (length_put xs at ys fits))
     (λ k d h. ⊎_elim (λ l. before k d l ∙ sym (get_or-put_before xs at ys fits k d l))

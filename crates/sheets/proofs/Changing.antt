@@ -1,16 +1,17 @@
 -- Making rows of those of a place, each by itself. Assumes nothing.
 --     not_refused          what is accepted is not refused
 --     lowered-key          the key of a row with a lower exponent
---     truncated-rows, derived-rows     what the two changes make is what their calls are to make
+--     chosen-rows, derived-rows     what is made of the rows is what the calls are to make
 --     table-room           a table has no more rows than an area
 --     storing-again        what was stored in an area before is gone
+--     pushed-fits          a row is written where there is room for it
 --     Changing             what holds while the rows are worked: the rows so far, and what is left gives the result
 --     changing-none        before the first row
 --     changing-some, changing_skip     a row of which one is made, and one of which none is
 --     changing-fits        there is room for it
 --     changing-refused, changing_all   the end, by a refusal or after the last row
---     changing_from        the same from before the working area was emptied
-use Rattle.std.proofs.Common.{◌≡◌, ℕ, ◌+◌, ◌-◌, ◌*◌, ◌<◌, ◌≤◌, Bool, true, false, cond, ◌&&◌, eqb, ltb, List, [], ◌∷◌, ◌++◌, length, get_or, drop, Some, None, Ok, Err, Result, sym, refl, ap, ◌∙◌, ⊎_elim, arith}
+--     changing_made        what a call made whose rows were made so
+use Rattle.std.proofs.Common.{◌≡◌, ℕ, ◌+◌, ◌-◌, ◌*◌, ◌<◌, ◌≤◌, Bool, true, false, cond, ◌&&◌, eqb, ltb, List, [], ◌∷◌, ◌++◌, length, get_or, drop, Some, None, Ok, Err, Option, Result, sym, refl, ap, ◌∙◌, ⊎_elim, arith}
 use Rattle.std.proofs.lemmas.List.{append-nil, append_assoc, length_push, length-take, at_drop_more, at_drop_all, get_or_past}
 use Rattle.std.proofs.lemmas.Bool.{cases_lt, cases_Bool, lt-ltb, le-ltb, cond-true, cond-false}
 use Rattle.refusals.specs.declared.Refusal.{Refusal}
@@ -18,25 +19,22 @@ use Rattle.rings.specs.Members.{copies}
 use Rattle.rings.specs.Kinds.{Kind}
 use Rattle.formats.specs.Exponents.{exponent, placed}
 use Rattle.formats.specs.Keys.{pack, unpack, replaced}
-use Rattle.formats.specs.Drafts.{variables}
 use Rattle.formats.specs.declared.variable.Variable.{Variable}
-use Rattle.rows.specs.Tables.{row, consed, both, limited}
+use Rattle.rows.specs.Tables.{row, consed, both}
 use Rattle.rows.specs.declared.Row.{Row}
 use Rattle.algebra.proofs.Packing.{length_unpack, within-unpack}
-use Rattle.arithmetic.specs.Truncating.{low as low_list, truncated}
+use Rattle.arithmetic.specs.Truncating.{chosen}
 use Rattle.arithmetic.specs.Deriving.{power_of, with_power, derived}
 use Rattle.arithmetic.proofs.Derived.{within_lower}
 use Rattle.areas.specs.Areas.{Contents, contents, lent_room, count, storing, pushed, kept as held, Tidy}
 use Rattle.areas.specs.Merging.{found, prepended}
 use Rattle.areas.specs.declared.twelve.Areas.{Areas}
-use Rattle.sheets.specs.Sheets.{state}
-use Rattle.sheets.specs.Ends.{made_of, Making}
-use Rattle.sheets.specs.Changes.{changed_row, before, changed}
-use Rattle.sheets.specs.declared.change.Change.{Change}
-use Rattle.sheets.specs.declared.change.Change.TheVariants.{Truncate, Differentiate}
-use Rattle.sheets.specs.declared.sheet.Sheet.{Sheet}
-use Rattle.sheets.proofs.States.{table-there, table-other}
-use Rattle.sheets.proofs.Outcomes.{place-table}
+use Rattle.sheets.specs.Changes.{row_derived, before, changed, Gives, Changes}
+use Rattle.sheets.specs.Ends.{made_in, made_of, Making}
+use Rattle.sheets.specs.Working.{table, below, but, Kept}
+use Rattle.sheets.specs.declared.desk.Desk.{Desk}
+use Rattle.sheets.proofs.States.{table-there}
+use Rattle.sheets.proofs.Products.{kept_same, kept_fewer, kept-stored, kept-after, made_by}
 
 pub not_refused : {X : Type 0} (x : X) (e : Refusal) → Err e ≡ Ok x → ⊥
 not_refused x e h = let z : ◌≡◌ {A = ℕ} 0 1 = cc in omega arith
@@ -54,29 +52,29 @@ found_before K k (Ok v) r =
     ⊎_elim (λ h. ap (λ o. prepended o r) (cond-true t None (Some (row k v)) h) ∙ sym (cond-true t _ _ h)) (λ h. ap (λ o. prepended o r) (cond-false t None (Some (row k v)) h) ∙ sym (cond-false t _ _ h)) (cases_Bool t)
 found_before K k (Err e) r = refl
 
-module _ {V : Type 0} (K : Kind V) (vs : List Variable) where
-  pub truncated-rows : (k n : ℕ) (xs : List (Row V)) → changed K vs (Truncate k n) xs ≡ Ok (truncated vs k n xs)
-  truncated-rows k n [] = refl
-  truncated-rows k n (x ∷ xs) =
-      let again = truncated-rows k n xs in
-      let t = low_list k n (unpack vs x.key) in
-      ⊎_elim
-      (λ h. ap (λ o. before (Ok o) (changed K vs (Truncate k n) xs)) (cond-true t (Some x) None h) ∙ ap (consed x) again ∙ ap Ok (sym (cond-true t _ _ h)))
-      (λ h. ap (λ o. before (Ok o) (changed K vs (Truncate k n) xs)) (cond-false t (Some x) None h) ∙ again ∙ ap Ok (sym (cond-false t _ _ h)))
-      (cases_Bool t)
+-- the rows that a test takes
+pub chosen-rows : {V : Type 0} (t : Row V → Bool) (xs : List (Row V)) → changed (λ x. Ok (cond (t x) (Some x) None)) xs ≡ Ok (chosen t xs)
+chosen-rows t [] = refl
+chosen-rows t (x ∷ xs) =
+    let again = chosen-rows t xs in
+    let R = changed (λ x. Ok (cond (t x) (Some x) None)) xs in
+    ⊎_elim
+    (λ h. ap (λ o. before (Ok o) R) (cond-true (t x) (Some x) None h) ∙ ap (consed x) again ∙ ap Ok (sym (cond-true (t x) _ _ h)))
+    (λ h. ap (λ o. before (Ok o) R) (cond-false (t x) (Some x) None h) ∙ again ∙ ap Ok (sym (cond-false (t x) _ _ h)))
+    (cases_Bool (t x))
 
-  pub derived-rows : (v : ℕ) (xs : List (Row V)) → changed K vs (Differentiate v) xs ≡ derived K vs v xs
-  derived-rows v [] = refl
-  derived-rows v (x ∷ xs) =
-      let again = derived-rows v xs in
-      let R = changed K vs (Differentiate v) xs in
-      let t = eqb (power_of vs v x) 0 in
-      let k = with_power vs v (power_of vs v x - 1) x in
-      let m = K.value (copies K.ops (power_of vs v x) (K.meaning x.coefficient)) in
-      ⊎_elim
-      (λ h. ap (λ r. before r R) (cond-true t (Ok None) (found K k m) h) ∙ again ∙ sym (cond-true t _ _ h))
-      (λ h. ap (λ r. before r R) (cond-false t (Ok None) (found K k m) h) ∙ found_before K k m R ∙ ap (both K k m) again ∙ sym (cond-false t _ _ h))
-      (cases_Bool t)
+pub derived-rows : {V : Type 0} (K : Kind V) (vs : List Variable) (v : ℕ) (xs : List (Row V)) → changed (row_derived K vs v) xs ≡ derived K vs v xs
+derived-rows K vs v [] = refl
+derived-rows K vs v (x ∷ xs) =
+    let again = derived-rows K vs v xs in
+    let R = changed (row_derived K vs v) xs in
+    let t = eqb (power_of vs v x) 0 in
+    let k = with_power vs v (power_of vs v x - 1) x in
+    let m = K.value (copies K.ops (power_of vs v x) (K.meaning x.coefficient)) in
+    ⊎_elim
+    (λ h. ap (λ r. before r R) (cond-true t (Ok None) (found K k m) h) ∙ again ∙ sym (cond-true t _ _ h))
+    (λ h. ap (λ r. before r R) (cond-false t (Ok None) (found K k m) h) ∙ found_before K k m R ∙ ap (both K k m) again ∙ sym (cond-false t _ _ h))
+    (cases_Bool t)
 
 -- ---- tables
 pub table-room : {V : Type 0} (s : Areas V) (a : ℕ) → length ((contents s).tables a) ≤ (contents s).room
@@ -87,7 +85,7 @@ cond_again true x y z = refl
 cond_again false x y z = refl
 
 pub storing-again : {V : Type 0} (c : Contents V) (a : ℕ) (xs ys : List (Row V)) → storing (storing c a xs) a ys ≡ storing c a ys
-storing-again c a xs ys = λ i. record { room = c.room; tables = λ o. cond_again (eqb o a && ltb a 12) xs ys (c.tables o) i }
+storing-again c a xs ys = λ i. record { lent = c.lent; room = c.room; tables = λ o. cond_again (eqb o a && ltb a 12) xs ys (c.tables o) i }
 
 -- ---- row by row
 -- the rows so far before those of r
@@ -103,94 +101,48 @@ prefixed_more : {V : Type 0} (out : List (Row V)) (x : Row V) (r : Result (List 
 prefixed_more out x (Ok xs) = ap Ok (sym (append_assoc out (x ∷ []) xs))
 prefixed_more out x (Err e) = refl
 
-module _ {V : Type 0} (K : Kind V) (change : Change) (s : Sheet V) (place : ℕ) where
-  abbrev F : List (Row V) → Result (List (Row V)) Refusal
-  F = changed K (variables s.format) change
+pub pushed-fits : {V : Type 0} (c : Contents V) (a : ℕ) (x : Row V) → a < 12 → length (c.tables a) < c.room → pushed c a x ≡ Ok (c.tables a ++ x ∷ [])
+pushed-fits c a x h fits = cond-true _ _ _ (lt-ltb a 12 h) ∙ cond-false _ _ _ (le-ltb c.room (length (c.tables a ++ x ∷ [])) (let l = length_push (c.tables a) x in omega arith))
 
-  abbrev xs : List (Row V)
-  xs = (contents s.areas).tables place
+module _ {V : Type 0} (K : Kind V) (post : Row V → Result (Option (Row V)) Refusal → Type 0) (a : ℕ) (xs : List (Row V)) (s : Desk V) where
+  pub record Changing (t : Desk V) (i : ℕ) : Type 0 where
+    pub kept : Kept K (but a) s t
+    pub few : length (table t a) ≤ i
+    pub rest : (f : Row V → Result (Option (Row V)) Refusal) → Gives post f → prefixed (table t a) (changed f (drop i xs)) ≡ changed f xs
 
-  pub record Changing (t : Sheet V) (i : ℕ) : Type 0 where
-    pub out : List (Row V)
-    pub holds : contents t.areas ≡ storing (contents s.areas) 8 out
-    pub rest : prefixed out (F (drop i xs)) ≡ F xs
-    pub few : length out ≤ i
-    pub format : t.format ≡ s.format
-    pub tidy : Tidy K s.areas → Tidy K t.areas
+  pub changing-none : table s a ≡ [] → Changing s 0
+  changing-none e = record { kept = kept_same K (but a) s; few = omega (arith, ap length e); rest = λ f h. ap (λ l. prefixed l (changed f xs)) e ∙ prefixed_none (changed f xs) }
 
-  pub changing-none : (t : Sheet V) → contents t.areas ≡ storing (contents s.areas) 8 [] → t.format ≡ s.format → (Tidy K s.areas → Tidy K t.areas) → Changing t 0
-  changing-none t is format tidy = record { out = []; holds = is; rest = prefixed_none (F xs); few = omega arith; format = format; tidy = tidy }
+  module _ (t : Desk V) (i : ℕ) (r : Changing t i) (more : i < length xs) (x : Row V) (is : x ≡ get_or xs i x) where
+    next : (o : Result (Option (Row V)) Refusal) → post x o → (f : Row V → Result (Option (Row V)) Refusal) → Gives post f → prefixed (table t a) (before o (changed f (drop (i + 1) xs))) ≡ changed f xs
+    next o p f h =
+        ap (λ z. prefixed (table t a) (before z (changed f (drop (i + 1) xs)))) (h x o p)
+        ∙ sym (ap (prefixed (table t a)) (at_drop_more (changed f) xs i x more ∙ ap (λ z. before (f z) (changed f (drop (i + 1) xs))) (sym is)))
+        ∙ r.rest f h
 
-  module _ (low : place < 8) (t : Sheet V) (i : ℕ) (inv : Changing t i) where
-    -- the place is as it was
-    pub changing-place : (contents t.areas).tables place ≡ xs
-    changing-place = ap (λ c. c.tables place) inv.holds ∙ table-other (contents s.areas) 8 inv.out place (λ e. omega arith)
+    pub changing-refused : (e : Refusal) → post x (Err e) → Changes post xs (Err e)
+    changing-refused e p = next (Err e) p
 
-    -- what a call made that ended here
-    making : (a : Result (List (Row V)) Refusal) (made : Result ℕ Refusal) → made_of (contents t.areas) made ≡ a → Making K 8 s t a made
-    making a made is = record {
-      result = is;
-      others = λ o l. ap (λ c. c.tables o) inv.holds ∙ table-other (contents s.areas) 8 inv.out o (λ e. omega arith);
-      room = ap (λ c. c.room) inv.holds;
-      format = inv.format;
-      tidy = inv.tidy;
-    }
+    pub changing_skip : post x (Ok None) → Changing t (i + 1)
+    changing_skip p = record { kept = r.kept; few = omega (arith, r.few); rest = next (Ok None) p }
 
-    pub changing_all : length xs ≤ i → Making K 8 s t (F xs) (Ok 8)
-    changing_all h = making (F xs) (Ok 8) (ap Ok (ap (λ c. c.tables 8) inv.holds ∙ table-there (contents s.areas) 8 inv.out (omega arith) ∙ sym (append-nil inv.out)) ∙ ap (prefixed inv.out) (sym (at_drop_all F xs i h)) ∙ inv.rest)
+    module _ (y : Row V) (p : post x (Ok (Some y))) (area : a < 12) (room : length xs ≤ (contents s.areas).room) where
+      pub changing-fits : pushed (contents t.areas) a y ≡ Ok (table t a ++ y ∷ [])
+      changing-fits = pushed-fits (contents t.areas) a y area (omega (arith, r.few, r.kept.room))
 
-    module _ (x : Row V) (h : i < length xs) (read : x ≡ get_or ((contents t.areas).tables place) i x) where
-      here : F (drop i xs) ≡ before (changed_row K (variables t.format) change x) (F (drop (i + 1) xs))
-      here = at_drop_more F xs i x h ∙ (λ j. before (changed_row K (variables (sym inv.format j)) change ((sym (ap (λ ys. get_or ys i x) changing-place) ∙ sym read) j)) (F (drop (i + 1) xs)))
+      pub changing-some : (u : Desk V) → contents u.areas ≡ held (contents t.areas) a (pushed (contents t.areas) a y) → u.format ≡ t.format → (Tidy K t.areas → Tidy K u.areas) → Changing u (i + 1)
+      changing-some u leaves format tidy =
+          let is_now : contents u.areas ≡ storing (contents t.areas) a (table t a ++ y ∷ []) = leaves ∙ ap (held (contents t.areas) a) changing-fits in
+          let now : table u a ≡ table t a ++ y ∷ [] = ap (λ d. d.tables a) is_now ∙ table-there (contents t.areas) a (table t a ++ y ∷ []) area in
+          record {
+            kept = kept-after K (but a) (but a) (but a) s t u (λ o h. (h, h)) r.kept (kept-stored K t u a (table t a ++ y ∷ []) is_now format tidy);
+            few = omega (arith, ap length now, length_push (table t a) y, r.few);
+            rest = λ f h. ap (λ l. prefixed l (changed f (drop (i + 1) xs))) now ∙ sym (prefixed_more (table t a) y (changed f (drop (i + 1) xs))) ∙ next (Ok (Some y)) p f h;
+          }
 
-      pub changing-refused : (e : Refusal) → changed_row K (variables t.format) change x ≡ Err e → Making K 8 s t (F xs) (Err e)
-      changing-refused e is = making (F xs) (Err e) (ap (prefixed inv.out) (sym (here ∙ ap (λ r. before r (F (drop (i + 1) xs))) is)) ∙ inv.rest)
+  pub changing_all : (t : Desk V) (i : ℕ) → Changing t i → length xs ≤ i → Changes post xs (Ok (table t a))
+  changing_all t i r all = λ f h. ap Ok (sym (append-nil (table t a))) ∙ ap (prefixed (table t a)) (sym (at_drop_all (changed f) xs i all)) ∙ r.rest f h
 
-      pub changing_skip : changed_row K (variables t.format) change x ≡ Ok None → Changing t (i + 1)
-      changing_skip is = let f = inv.few in record {
-        out = inv.out;
-        holds = inv.holds;
-        rest = ap (prefixed inv.out) (sym (here ∙ ap (λ r. before r (F (drop (i + 1) xs))) is)) ∙ inv.rest;
-        few = omega arith;
-        format = inv.format;
-        tidy = inv.tidy;
-      }
-
-      module _ (y : Row V) (is : changed_row K (variables t.format) change x ≡ Ok (Some y)) where
-        pub changing-fits : pushed (contents t.areas) 8 y ≡ Ok (inv.out ++ y ∷ [])
-        changing-fits =
-            let c = contents s.areas in
-            let o = inv.out in
-            let f = inv.few in
-            let l = length_push o y in
-            let m = table-room s.areas place in
-            (λ j. pushed (inv.holds j) 8 y)
-            ∙ ap (λ ys. limited c.room (Ok (ys ++ y ∷ []))) (table-there c 8 o (omega arith))
-            ∙ cond-false (ltb c.room (length (o ++ y ∷ []))) _ _ (le-ltb c.room (length (o ++ y ∷ [])) (omega arith))
-
-        pub changing-some : (u : Sheet V) → contents u.areas ≡ held (contents t.areas) 8 (pushed (contents t.areas) 8 y) → u.format ≡ t.format → (Tidy K t.areas → Tidy K u.areas) → Changing u (i + 1)
-        changing-some u leaves format tidy =
-            let o = inv.out in
-            let f = inv.few in
-            let l = length_push o y in
-            record {
-              out = o ++ y ∷ [];
-              holds = leaves ∙ ap (held (contents t.areas) 8) changing-fits ∙ ap (λ c. storing c 8 (o ++ y ∷ [])) inv.holds ∙ storing-again (contents s.areas) 8 o (o ++ y ∷ []);
-              rest = sym (prefixed_more o y (F (drop (i + 1) xs))) ∙ ap (prefixed o) (sym (here ∙ ap (λ r. before r (F (drop (i + 1) xs))) is)) ∙ inv.rest;
-              few = omega arith;
-              format = format ∙ inv.format;
-              tidy = λ h. tidy (inv.tidy h);
-            }
-
-  -- the same from before an area was emptied
-  pub changing_from : (w : Sheet V) → place < 8 → contents s.areas ≡ storing (contents w.areas) 8 [] → s.format ≡ w.format → (Tidy K w.areas → Tidy K s.areas) → (t : Sheet V) (made : Result ℕ Refusal) → Making K 8 s t (F xs) made → Making K 8 w t (changed K (variables w.format) change ((state w).places place)) made
-  changing_from w low is format tidy t made m =
-      let c = contents w.areas in
-      let kept : (o : ℕ) → o < 8 → (contents s.areas).tables o ≡ c.tables o = λ o l. ap (λ d. d.tables o) is ∙ table-other c 8 [] o (λ e. omega arith) in
-      record {
-        result = m.result ∙ (λ i. changed K (variables (format i)) change ((kept place low ∙ sym (place-table w place low)) i));
-        others = λ o l. m.others o l ∙ kept o l;
-        room = m.room ∙ ap (λ d. d.room) is;
-        format = m.format ∙ format;
-        tidy = λ h. m.tidy (tidy h);
-      }
+-- what a call made whose rows were made so
+pub changing_made : {V : Type 0} (K : Kind V) (post : Row V → Result (Option (Row V)) Refusal → Type 0) (a : ℕ) → 8 ≤ a → (xs : List (Row V)) (s t : Desk V) (answer : Result (Unit {0}) Refusal) (made : Result ℕ Refusal) → Kept K (but a) s t → Changes post xs (made_of (contents t.areas) (made_in a answer)) → made ≡ made_in a answer → (f : Row V → Result (Option (Row V)) Refusal) → Gives post f → Making K 8 s t (changed f xs) made
+changing_made K post a low xs s t answer made k makes is f h = made_by K 8 s t (changed f xs) made (kept_fewer K (but a) (below 8) s t (λ o l e. omega arith) k) (ap (made_of (contents t.areas)) is ∙ makes f h)

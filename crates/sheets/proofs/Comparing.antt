@@ -1,13 +1,13 @@
 -- Whether tables are the same, and the first row of one. Assumes nothing.
---     no_first, some_first     the first row, as it is read
---     unequal_lengths          tables of unequal lengths are not the same
---     other_key, other-coefficient, same_row, same_all     two tables from a row on
+--     same_pair                whether the rows of a pair are the same
+--     unequal_lengths, same_pairs     tables of unequal lengths are not the same; others are if their pairs are
 --     same-itself, same-canonical     canonical rows are the same exactly if they are equal
 --     compared                 so they are exactly if their polynomials are one
 --     leading-of-rows          the first of canonical rows is that of the leading term
-use Rattle.std.proofs.Common.{◌≡◌, ℕ, ◌+◌, ◌<◌, ◌≤◌, Bool, true, false, ◌&&◌, eqb, List, [], ◌∷◌, length, get_or, drop, Some, None, Ok, sym, refl, ap, ◌∙◌, subst, ⊎_elim, arith}
-use Rattle.std.proofs.lemmas.List.{drop_more, drop_all}
-use Rattle.std.proofs.lemmas.Bool.{eqb-true, eq-eqb, ne_eqb, and_parts, and_from, true≢false}
+use Rattle.std.specs.List.{list_all, zip}
+use Rattle.std.specs.Prelude.{◌==◌}
+use Rattle.std.proofs.Common.{◌≡◌, ℕ, Bool, true, false, ◌&&◌, eqb, List, [], ◌∷◌, length, Ok, sym, refl, ap, ◌∙◌, subst, ⊎_elim, arith}
+use Rattle.std.proofs.lemmas.Bool.{eqb-true, eq-eqb, and_parts, and_from, true≢false}
 use Rattle.rings.specs.Members.{RingLaws}
 use Rattle.rings.specs.Kinds.{Kind, ValueLaws}
 use Rattle.formats.specs.Exponents.{Below}
@@ -22,15 +22,11 @@ use Rattle.algebra.proofs.Tabling.{tabling, under_some}
 use Rattle.arithmetic.proofs.Truncated.{row_list}
 use Rattle.sheets.specs.Calls.{same_rows, row_leading}
 use Rattle.sheets.specs.Promises.{Same, Leads}
-use Rattle.sheets.specs.Sheets.{State}
+use Rattle.sheets.specs.States.{State}
 
-pub no_first : {V : Type 0} (xs : List (Row V)) → length xs ≡ 0 → row_leading xs ≡ None
-no_first [] h = refl
-no_first (x ∷ xs) h = absurd (omega arith)
-
-pub some_first : {V : Type 0} (xs : List (Row V)) (x : Row V) → (length xs ≡ 0 → ⊥) → x ≡ get_or xs 0 x → row_leading xs ≡ Some x
-some_first [] x n h = absurd (n refl)
-some_first (y ∷ ys) x n h = ap Some (sym h)
+-- whether the rows of a pair are the same
+abbrev pub same_pair : {V : Type 0} → Kind V → Row V × Row V → Bool
+same_pair K p = p.0.key == p.1.key && K.ops.same (K.meaning p.0.coefficient) (K.meaning p.1.coefficient)
 
 module _ {V : Type 0} (K : Kind V) where
   pub unequal_lengths : (xs ys : List (Row V)) → (length xs ≡ length ys → ⊥) → same_rows K xs ys ≡ false
@@ -44,22 +40,11 @@ module _ {V : Type 0} (K : Kind V) where
       and_false true b e = e
       and_false false b e = refl
 
-  -- the rows x and y are the next ones of two tables
-  module _ (xs ys : List (Row V)) (i : ℕ) (hx : i < length xs) (hy : i < length ys) (x y : Row V) (rx : x ≡ get_or xs i x) (ry : y ≡ get_or ys i y) where
-    same_next : same_rows K (drop i xs) (drop i ys) ≡ same_rows K (x ∷ drop (i + 1) xs) (y ∷ drop (i + 1) ys)
-    same_next = λ j. same_rows K ((drop_more xs i x hx ∙ ap (λ z. z ∷ drop (i + 1) xs) (sym rx)) j) ((drop_more ys i y hy ∙ ap (λ z. z ∷ drop (i + 1) ys) (sym ry)) j)
-
-    pub other_key : (x.key ≡ y.key → ⊥) → same_rows K (drop i xs) (drop i ys) ≡ false
-    other_key n = same_next ∙ ap (λ t. (t && K.ops.same (K.meaning x.coefficient) (K.meaning y.coefficient)) && same_rows K (drop (i + 1) xs) (drop (i + 1) ys)) (ne_eqb x.key y.key n)
-
-    pub other-coefficient : x.key ≡ y.key → K.ops.same (K.meaning x.coefficient) (K.meaning y.coefficient) ≡ false → same_rows K (drop i xs) (drop i ys) ≡ false
-    other-coefficient e n = same_next ∙ (λ j. (eq-eqb x.key y.key e j && n j) && same_rows K (drop (i + 1) xs) (drop (i + 1) ys))
-
-    pub same_row : x.key ≡ y.key → K.ops.same (K.meaning x.coefficient) (K.meaning y.coefficient) ≡ true → same_rows K (drop i xs) (drop i ys) ≡ same_rows K (drop (i + 1) xs) (drop (i + 1) ys)
-    same_row e s = same_next ∙ (λ j. (eq-eqb x.key y.key e j && s j) && same_rows K (drop (i + 1) xs) (drop (i + 1) ys))
-
-  pub same_all : (xs ys : List (Row V)) (i : ℕ) → length xs ≤ i → length ys ≤ i → same_rows K (drop i xs) (drop i ys) ≡ true
-  same_all xs ys i hx hy = λ j. same_rows K (drop_all i xs hx j) (drop_all i ys hy j)
+  pub same_pairs : (xs ys : List (Row V)) → length xs ≡ length ys → list_all (same_pair K) (zip xs ys) ≡ same_rows K xs ys
+  same_pairs [] [] e = refl
+  same_pairs [] (y ∷ ys) e = absurd (omega arith)
+  same_pairs (x ∷ xs) [] e = absurd (omega arith)
+  same_pairs (x ∷ xs) (y ∷ ys) e = ap (λ t. same_pair K (x, y) && t) (same_pairs xs ys (omega arith))
 
   -- ---- canonical rows
   module _ (ring : RingLaws K.ops) (laws : ValueLaws K) where

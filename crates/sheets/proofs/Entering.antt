@@ -1,11 +1,12 @@
 -- The running table of a sheet. Assumes nothing.
---     below-some, some-above     the test of a key against that of the last row, and what it says where it fails
+--     below-some, below-told     the test of a key against that of the last row, if there is one
+--     some-above                 what it says where it fails
 --     alone-fits                 the area for one row has room for it, where there is a running table
 --     merged_sum, merged_rows, merged_state     a row added by the sum: what is to be left, what is, and the places
---     refused-rows, accepted-rows, held-state   a row written after the others
+--     accepted-rows, held-state   a row written after the others
 --     entering-falling           on falling keys, a row is always added as by the sum
-use Rattle.std.proofs.Common.{◌≡◌, ℕ, ◌-◌, ◌<◌, ◌≤◌, true, false, ltb, List, [], ◌∷◌, ◌++◌, length, get_or, is_err, Ok, Err, Result, sym, refl, ap, ◌∙◌, ⊎_elim, arith}
-use Rattle.std.proofs.lemmas.Bool.{cases_Bool, ltb-true, le-ltb, cond-true, cond-false, true≢false}
+use Rattle.std.proofs.Common.{◌≡◌, ℕ, ◌-◌, ◌<◌, ◌≤◌, true, false, ltb, List, [], ◌∷◌, ◌++◌, length, get_or, is_err, Bool, Some, None, Option, is_some, IfSome, MatchOption, IsTrue, Bor, Ok, Err, Result, sym, refl, ap, ◌∙◌, ⊎_elim, arith}
+use Rattle.std.proofs.lemmas.Bool.{cases_Bool, ltb-true, lt-ltb, le-ltb, cond-true, cond-false, true≢false}
 use Rattle.refusals.specs.declared.Refusal.{Refusal}
 use Rattle.rings.specs.Kinds.{Kind}
 use Rattle.formats.specs.declared.variable.Variable.{Variable}
@@ -14,7 +15,7 @@ use Rattle.rows.specs.declared.Row.{Row}
 use Rattle.rows.proofs.Sums.{sum_first}
 use Rattle.algebra.specs.Tables.{Falling}
 use Rattle.areas.specs.Areas.{Contents, storing, rows_of, answered, added, pushed, kept as held}
-use Rattle.sheets.specs.Sheets.{seen}
+use Rattle.sheets.specs.States.{seen}
 use Rattle.sheets.specs.Running.{follows, below_last, entering}
 use Rattle.sheets.proofs.States.{seen-working}
 use Rattle.sheets.proofs.Changing.{storing-again}
@@ -27,6 +28,14 @@ follows-last k x (y ∷ ys) d = follows-last k y ys d
 pub below-some : {V : Type 0} (k : ℕ) (xs : List (Row V)) (d : Row V) → (length xs ≡ 0 → ⊥) → ltb k (get_or xs (length xs - 1) d).key ≡ below_last k xs
 below-some k [] d n = absurd (n refl)
 below-some k (x ∷ xs) d n = let e : length (x ∷ xs) - 1 ≡ length xs = omega arith in ap (λ m. ltb k (get_or (x ∷ xs) m d).key) e ∙ sym (follows-last k x xs d)
+
+-- the same of the last row as it is asked for
+pub below-told : {V : Type 0} (k : ℕ) (xs : List (Row V)) (o : Option (Bor (Row V))) (b : Bool) → is_some o ≡ ltb 0 (length xs) → IfSome o (λ x. x.now ≡ get_or xs (length xs - 1) x.now) → MatchOption o (IsTrue b) (λ x. b ≡ ltb k x.now.key) → b ≡ below_last k xs
+below-told k [] None true some at h = refl
+below-told k [] None false some at h = absurd (true≢false (sym h))
+below-told k [] (Some y) b some at h = absurd (true≢false some)
+below-told k (x ∷ xs) None b some at h = absurd (true≢false (sym (lt-ltb 0 (length (x ∷ xs)) (omega arith)) ∙ sym some))
+below-told k (x ∷ xs) (Some y) b some at h = h ∙ ap (λ z. ltb k z.key) at ∙ below-some k (x ∷ xs) y.now (λ e. absurd (omega arith))
 
 pub some-above : {V : Type 0} (k : ℕ) (xs : List (Row V)) → below_last k xs ≡ false → 0 < length xs
 some-above k [] h = absurd (true≢false h)
@@ -53,10 +62,6 @@ module _ {V : Type 0} (K : Kind V) (c c₁ : Contents V) (x : Row V) (e₁ : c�
         ∙ ap (λ d. seen d vs) holds-alone ∙ seen-working c vs 10 (x ∷ []) (omega arith)
 
 -- ---- a row written after the others, as r says
-pub refused-rows : {V : Type 0} (r : Result (List (Row V)) Refusal) → is_err (answered r) ≡ true → rows_of r ≡ []
-refused-rows (Ok xs) h = absurd (true≢false (sym h))
-refused-rows (Err e) h = refl
-
 module _ {V : Type 0} (c : Contents V) where
   pub accepted-rows : (r : Result (List (Row V)) Refusal) → is_err (answered r) ≡ false → (held c 8 r).tables 8 ≡ rows_of r
   accepted-rows (Ok xs) h = refl

@@ -1,5 +1,7 @@
 pub mod States
 pub mod Outcomes
+pub mod LentRows
+pub mod LentSums
 pub mod Terms
 pub mod Scaled
 pub mod Changing

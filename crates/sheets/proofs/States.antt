@@ -24,12 +24,13 @@ use Rattle.rows.specs.Tables.{limited}
 use Rattle.rows.specs.declared.Row.{Row}
 use Rattle.areas.specs.Areas.{Contents, contents, capacity, count, storing, fresh, rows_of, answered, pushed, kept as held, Tidy}
 use Rattle.areas.specs.declared.twelve.Areas.{Areas}
-use Rattle.sheets.specs.Sheets.{placed, seen, state, opened, stored, kept}
+use Rattle.sheets.specs.States.{placed, seen, opened, stored, kept}
+use Rattle.sheets.specs.Desks.{state}
 use Rattle.sheets.specs.Ends.{made_in, ended, finished, made_of, Making}
-use Rattle.sheets.specs.declared.sheet.Sheet.{Sheet}
+use Rattle.sheets.specs.declared.desk.Desk.{Desk}
 
 -- the sheet s on other areas
-abbrev pub with_areas : {V : Type 0} → Sheet V → Areas V → Sheet V
+abbrev pub with_areas : {V : Type 0} → Desk V → Areas V → Desk V
 with_areas s a = record { areas = a; format = s.format }
 
 -- ---- tables
@@ -41,15 +42,15 @@ module _ {V : Type 0} (c : Contents V) (a : ℕ) (xs : List (Row V)) where
   table-other o ne = cond-false _ xs (c.tables o) (and_left _ _ (ne_eqb o a ne))
 
 -- ---- states
-pub seen_same : {V : Type 0} (c d : Contents V) (vs : List Variable) → d.room ≡ c.room → ((p : ℕ) → p < 8 → d.tables p ≡ c.tables p) → seen d vs ≡ seen c vs
-seen_same {V} c d vs room tables =
+pub seen_same : {V : Type 0} (c d : Contents V) (vs : List Variable) → d.lent ≡ c.lent → d.room ≡ c.room → ((p : ℕ) → p < 8 → d.tables p ≡ c.tables p) → seen d vs ≡ seen c vs
+seen_same {V} c d vs lent room tables =
     let place : (p : ℕ) → cond (placed p) (d.tables p) [] ≡ cond (placed p) (c.tables p) [] =
     λ p. cond_both (placed p) (d.tables p) [] (λ xs. xs ≡ cond (placed p) (c.tables p) []) (λ t. tables p (ltb-true p 8 t) ∙ sym (cond-true _ _ _ t)) (λ t. sym (cond-false _ _ _ t)) in
-    λ i. record { room = room i; places = λ p. place p i; vars = vs }
+    λ i. record { lent = lent i; room = room i; places = λ p. place p i; vars = vs }
 
 module _ {V : Type 0} (c : Contents V) (vs : List Variable) where
   pub seen-working : (a : ℕ) (xs : List (Row V)) → 8 ≤ a → seen (storing c a xs) vs ≡ seen c vs
-  seen-working a xs h = seen_same c (storing c a xs) vs refl (λ p l. table-other c a xs p (λ e. omega arith))
+  seen-working a xs h = seen_same c (storing c a xs) vs refl refl (λ p l. table-other c a xs p (λ e. omega arith))
 
   pub seen-place : (r : ℕ) (xs : List (Row V)) → r < 8 → seen (storing c r xs) vs ≡ stored (seen c vs) r xs
   seen-place r xs h =
@@ -57,9 +58,9 @@ module _ {V : Type 0} (c : Contents V) (vs : List Variable) where
       λ p. ⊎_elim (λ e. cond-true _ _ _ (lt-ltb p 8 (omega arith)) ∙ ap (storing c r xs).tables e ∙ table-there c r xs (omega arith) ∙ sym (cond-true _ _ _ (eq-eqb p r e)))
       (λ ne. ap (λ ys. cond (placed p) ys []) (table-other c r xs p ne) ∙ sym (cond-false _ _ _ (ne_eqb p r ne)))
       (cases_eq p r) in
-      λ i. record { room = c.room; places = λ p. place p i; vars = vs }
+      λ i. record { lent = c.lent; room = c.room; places = λ p. place p i; vars = vs }
 
-pub few-rows : {V : Type 0} (s : Sheet V) (p : ℕ) → length ((state s).places p) ≤ (state s).room
+pub few-rows : {V : Type 0} (s : Desk V) (p : ℕ) → length ((state s).places p) ≤ (state s).room
 few-rows s p =
     let c = contents s.areas in
     let n = count s.areas p in
@@ -67,7 +68,7 @@ few-rows s p =
     cond_both (placed p) (c.tables p) [] (λ xs. length xs ≤ c.room) (λ _. omega arith) (λ _. omega arith)
 
 pub seen-fresh : {V : Type 0} (c : Contents V) (n : ℕ) (vs : List Variable) → c ≡ fresh n → seen c vs ≡ opened n vs
-seen-fresh c n vs is = ap (λ d. seen d vs) is ∙ (λ i. record { room = capacity n; places = λ p. cond_both (placed p) [] [] (λ xs. xs ≡ []) (λ _. refl) (λ _. refl) i; vars = vs })
+seen-fresh c n vs is = ap (λ d. seen d vs) is ∙ (λ i. record { lent = n; room = capacity n; places = λ p. cond_both (placed p) [] [] (λ xs. xs ≡ []) (λ _. refl) (λ _. refl) i; vars = vs })
 
 -- ---- the working areas emptied, one after the other
 module _ {V : Type 0} (c d : Contents V) (b : ℕ) (is : d ≡ storing c b []) where
@@ -96,39 +97,41 @@ module _ {V : Type 0} (c c₈ c₉ c₁₀ c₁₁ : Contents V) (e₈ : c₈ �
       (cases_eq a 11)
 
 -- ---- the end of a call
-module _ {V : Type 0} (K : Kind V) (s t : Sheet V) (r : ℕ) (made : Result ℕ Refusal) (answer : Result (Unit {0}) Refusal) where
+module _ {V : Type 0} (K : Kind V) (s t : Desk V) (r : ℕ) (made : Result ℕ Refusal) where
   -- what finishing has done before it sweeps
   pub record Stored : Type 0 where
-    pub answers : answer ≡ ended made
     pub leaves : state t ≡ finished (state s) (contents s.areas) r made
     pub tidy : Tidy K s.areas → Tidy K t.areas
 
-  pub stored-made : r < 8 → (a : ℕ) → made ≡ Ok a → answer ≡ Ok tt → contents t.areas ≡ storing (contents s.areas) r ((contents s.areas).tables a) → t.format ≡ s.format → (Tidy K s.areas → Tidy K t.areas) → Stored
-  stored-made h a e f is format tidy = record {
-    answers = f ∙ ap ended (sym e);
+  pub stored-made : r < 8 → (a : ℕ) → made ≡ Ok a → contents t.areas ≡ storing (contents s.areas) r ((contents s.areas).tables a) → t.format ≡ s.format → (Tidy K s.areas → Tidy K t.areas) → Stored
+  stored-made h a e is format tidy = record {
     leaves =
         (λ i. seen (is i) (variables (format i))) ∙ seen-place (contents s.areas) (variables s.format) r ((contents s.areas).tables a) h
         ∙ ap (finished (state s) (contents s.areas) r) (sym e);
     tidy = tidy;
   }
 
-  pub stored-none : (x : Refusal) → made ≡ Err x → answer ≡ Err x → t ≡ s → Stored
-  stored-none x e f is = record {
-    answers = f ∙ ap ended (sym e);
-    leaves = ap state is ∙ ap (finished (state s) (contents s.areas) r) (sym e);
+  pub stored-none : ((a : ℕ) → made ≡ Ok a → ⊥) → t ≡ s → Stored
+  stored-none none is = record {
+    leaves = ap state is ∙ by made none;
     tidy = subst (λ u. Tidy K s.areas → Tidy K u.areas) (sym is) (λ x. x);
   }
+    where
+      by : (made : Result ℕ Refusal) → ((a : ℕ) → made ≡ Ok a → ⊥) → state s ≡ finished (state s) (contents s.areas) r made
+      by (Ok a) n = absurd (n a refl)
+      by (Err e) n = refl
 
 -- ---- what was made
 module _ {V : Type 0} (K : Kind V) where
-  pub fewer : (m n : ℕ) (s t : Sheet V) (a : Result (List (Row V)) Refusal) (made : Result ℕ Refusal) → m ≤ n → Making K n s t a made → Making K m s t a made
-  fewer m n s t a made h m' = record { result = m'.result; others = λ o l. m'.others o (omega arith); room = m'.room; format = m'.format; tidy = m'.tidy }
+  pub fewer : (m n : ℕ) (s t : Desk V) (a : Result (List (Row V)) Refusal) (made : Result ℕ Refusal) → m ≤ n → Making K n s t a made → Making K m s t a made
+  fewer m n s t a made h m' = record { result = m'.result; others = λ o l. m'.others o (omega arith); lent = m'.lent; room = m'.room; format = m'.format; tidy = m'.tidy }
 
   -- the area w of t holds the rows of a, if it is no refusal, and t is as s is in the areas below n
-  pub passed : (n w : ℕ) (s t : Sheet V) (a : Result (List (Row V)) Refusal) (answer : Result (Unit {0}) Refusal) (made : Result ℕ Refusal) → n ≤ w → w < 12 → contents t.areas ≡ storing (contents s.areas) w (rows_of a) → t.format ≡ s.format → (Tidy K s.areas → Tidy K t.areas) → answer ≡ answered a → made ≡ made_in w answer → Making K n s t a made
+  pub passed : (n w : ℕ) (s t : Desk V) (a : Result (List (Row V)) Refusal) (answer : Result (Unit {0}) Refusal) (made : Result ℕ Refusal) → n ≤ w → w < 12 → contents t.areas ≡ storing (contents s.areas) w (rows_of a) → t.format ≡ s.format → (Tidy K s.areas → Tidy K t.areas) → answer ≡ answered a → made ≡ made_in w answer → Making K n s t a made
   passed n w s t a answer made low high is format tidy answers makes = record {
     result = ap (made_of (contents t.areas)) (makes ∙ ap (made_in w) answers) ∙ there a is;
     others = λ o l. ap (λ c. c.tables o) is ∙ table-other (contents s.areas) w (rows_of a) o (λ e. omega arith);
+    lent = ap (λ c. c.lent) is;
     room = ap (λ c. c.room) is;
     format = format;
     tidy = tidy;
@@ -138,9 +141,9 @@ module _ {V : Type 0} (K : Kind V) where
       there (Ok xs) e = ap Ok (ap (λ c. c.tables w) e ∙ table-there (contents s.areas) w xs high)
       there (Err x) e = refl
 
-  module _ (n : ℕ) (places : 8 ≤ n) (s t : Sheet V) (a : Result (List (Row V)) Refusal) (made : Result ℕ Refusal) (m : Making K n s t a made) where
+  module _ (n : ℕ) (places : 8 ≤ n) (s t : Desk V) (a : Result (List (Row V)) Refusal) (made : Result ℕ Refusal) (m : Making K n s t a made) where
     pub making_state : state t ≡ state s
-    making_state = ap (λ f. seen (contents t.areas) (variables f)) m.format ∙ seen_same (contents s.areas) (contents t.areas) (variables s.format) m.room (λ p l. m.others p (omega arith))
+    making_state = ap (λ f. seen (contents t.areas) (variables f)) m.format ∙ seen_same (contents s.areas) (contents t.areas) (variables s.format) m.lent m.room (λ p l. m.others p (omega arith))
 
     pub making_ended : ended made ≡ answered a
     making_ended = by made ∙ ap answered m.result
@@ -157,23 +160,25 @@ module _ {V : Type 0} (K : Kind V) where
         by (Err e) = refl
 
   -- and before it another area was written
-  pub before : (n b : ℕ) (s mid t : Sheet V) (xs : List (Row V)) (a : Result (List (Row V)) Refusal) (made : Result ℕ Refusal) → n ≤ b → contents mid.areas ≡ storing (contents s.areas) b xs → mid.format ≡ s.format → (Tidy K s.areas → Tidy K mid.areas) → Making K n mid t a made → Making K n s t a made
+  pub before : (n b : ℕ) (s mid t : Desk V) (xs : List (Row V)) (a : Result (List (Row V)) Refusal) (made : Result ℕ Refusal) → n ≤ b → contents mid.areas ≡ storing (contents s.areas) b xs → mid.format ≡ s.format → (Tidy K s.areas → Tidy K mid.areas) → Making K n mid t a made → Making K n s t a made
   before n b s mid t xs a made low is format tidy m = record {
     result = m.result;
     others = λ o l. m.others o l ∙ ap (λ c. c.tables o) is ∙ table-other (contents s.areas) b xs o (λ e. omega arith);
+    lent = m.lent ∙ ap (λ c. c.lent) is;
     room = m.room ∙ ap (λ c. c.room) is;
     format = m.format ∙ format;
     tidy = λ x. m.tidy (tidy x);
   }
 
   -- one row, pushed to the emptied area 8
-  pub pushed-one : (s : Sheet V) (mid : Areas V) (t : Sheet V) (x : Row V) (answer : Result (Unit {0}) Refusal) (made : Result ℕ Refusal) → contents mid ≡ storing (contents s.areas) 8 [] → contents t.areas ≡ held (contents mid) 8 (pushed (contents mid) 8 x) → t.format ≡ s.format → (Tidy K s.areas → Tidy K t.areas) → answer ≡ answered (pushed (contents mid) 8 x) → made ≡ made_in 8 answer → Making K 8 s t (limited (state s).room (Ok (x ∷ []))) made
+  pub pushed-one : (s : Desk V) (mid : Areas V) (t : Desk V) (x : Row V) (answer : Result (Unit {0}) Refusal) (made : Result ℕ Refusal) → contents mid ≡ storing (contents s.areas) 8 [] → contents t.areas ≡ held (contents mid) 8 (pushed (contents mid) 8 x) → t.format ≡ s.format → (Tidy K s.areas → Tidy K t.areas) → answer ≡ answered (pushed (contents mid) 8 x) → made ≡ made_in 8 answer → Making K 8 s t (limited (state s).room (Ok (x ∷ []))) made
   pushed-one s mid t x answer made cleared is format tidy answers makes =
       let c = contents s.areas in
       let one : pushed (contents mid) 8 x ≡ limited c.room (Ok (x ∷ [])) = ap (λ d. limited d.room (Ok (d.tables 8 ++ x ∷ []))) cleared in
       record {
         result = ap (made_of (contents t.areas)) (makes ∙ ap (made_in 8) (answers ∙ ap answered one)) ∙ there (limited c.room (Ok (x ∷ []))) (is ∙ (λ i. held (cleared i) 8 (one i)));
         others = λ o l. ap (λ d. d.tables o) (is ∙ (λ i. held (cleared i) 8 (one i))) ∙ kept-other (limited c.room (Ok (x ∷ []))) o l;
+        lent = ap (λ d. d.lent) (is ∙ (λ i. held (cleared i) 8 (one i))) ∙ kept-lent (limited c.room (Ok (x ∷ [])));
         room = ap (λ d. d.room) (is ∙ (λ i. held (cleared i) 8 (one i))) ∙ kept-room (limited c.room (Ok (x ∷ [])));
         format = format;
         tidy = tidy;
@@ -186,6 +191,10 @@ module _ {V : Type 0} (K : Kind V) where
       kept-other : (a : Result (List (Row V)) Refusal) (o : ℕ) → o < 8 → (held (storing (contents s.areas) 8 []) 8 a).tables o ≡ (contents s.areas).tables o
       kept-other (Ok xs) o l = table-other (storing (contents s.areas) 8 []) 8 xs o (λ e. omega arith) ∙ table-other (contents s.areas) 8 [] o (λ e. omega arith)
       kept-other (Err x) o l = table-other (contents s.areas) 8 [] o (λ e. omega arith)
+
+      kept-lent : (a : Result (List (Row V)) Refusal) → (held (storing (contents s.areas) 8 []) 8 a).lent ≡ (contents s.areas).lent
+      kept-lent (Ok xs) = refl
+      kept-lent (Err x) = refl
 
       kept-room : (a : Result (List (Row V)) Refusal) → (held (storing (contents s.areas) 8 []) 8 a).room ≡ (contents s.areas).room
       kept-room (Ok xs) = refl

@@ -24,7 +24,7 @@ use Rattle.algebra.proofs.Exponents.{length_zeros}
 use Rattle.arithmetic.specs.Theorems.{Gives}
 use Rattle.arithmetic.proofs.Substituted.{single}
 use Rattle.algebra.proofs.Tabling.{rows_agree}
-use Rattle.sheets.specs.Sheets.{State}
+use Rattle.sheets.specs.States.{State}
 use Rattle.sheets.specs.Calls.{limit, constant_rows, variable_rows}
 use Rattle.sheets.specs.Promises.{constant_of, NoConstant}
 

@@ -22,7 +22,7 @@ use Rattle.arithmetic.specs.Dividing.{Over, quotient}
 use Rattle.arithmetic.specs.Truncating as truncating
 use Rattle.arithmetic.specs.Deriving.{derived}
 use Rattle.arithmetic.specs.Substituting as substituting
-use Rattle.sheets.specs.Sheets.{State, placed}
+use Rattle.sheets.specs.States.{State, placed}
 
 abbrev pub limit : {V : Type 0} → State V → Result (List (Row V)) Refusal → Result (List (Row V)) Refusal
 limit s a = limited s.room a

@@ -1,3 +1,5 @@
+pub mod States
+pub mod Desks
 pub mod Sheets
 pub mod Ends
 pub mod Changes
@@ -5,3 +7,6 @@ pub mod Running
 pub mod Calls
 pub mod Promises
 pub mod Working
+pub mod Lent
+pub mod Sums
+pub mod Places

@@ -26,7 +26,7 @@ use Rattle.algebra.specs.Leading.{Leading, Quotient}
 use Rattle.algebra.specs.Tables.{CanonicalRows}
 use Rattle.arithmetic.specs.Quotients.{Divided}
 use Rattle.arithmetic.specs.Refusals.{TooLarge, Unfitting, NoProduct, NoSubstitution, every, lowest}
-use Rattle.sheets.specs.Sheets.{State}
+use Rattle.sheets.specs.States.{State}
 
 abbrev pub Formulas : {V : Type 0} → Kind V → Type 0
 Formulas K = ℕ → Poly K.ops

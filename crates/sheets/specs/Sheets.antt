@@ -1,45 +1,14 @@
--- A sheet as plain data.
---     State V             the room of a place, the table in each, and the format's variables
---     seen c vs           the state of a sheet whose areas hold c
---     state s             the state of the sheet s
---     opened n vs         the state of a sheet that was opened on n rows
---     stored s r xs       s with the table xs in the place r
---     kept s r a          s with the rows of a in the place r, or unchanged by a refusal
---     placed p            whether p is the number of a place
---     Blank K s           every lent row of the sheet s that is no row of a place is blank
-use Rattle.std.specs.Prelude.{◌≡◌, ℕ, ◌<◌, ◌≤◌, Bool, cond, List, [], Ok, Err, Result, ◌==◌, nat_lt}
-use Rattle.refusals.specs.declared.Refusal.{Refusal}
-use Rattle.rings.specs.Kinds.{Kind}
-use Rattle.formats.specs.Drafts.{variables}
-use Rattle.formats.specs.declared.variable.Variable.{Variable}
-use Rattle.rows.specs.declared.Row.{Row}
-use Rattle.areas.specs.Areas.{Contents, contents, capacity, Tidy}
+-- A sheet, by its desk.
+--     state s     the state of the sheet s
+--     lent s      the lent rows of the sheet s, all of them
+use Rattle.rings.specs.declared.ring.Ring.{Ghosts}
+use Rattle.sheets.specs.States.{State}
+use Rattle.sheets.specs.Desks as desks
+use Rattle.sheets.specs.Lent.{Lent, lent_of}
 use Rattle.sheets.specs.declared.sheet.Sheet.{Sheet}
 
-pub record State (V : Type 0) : Type 0 where
-  pub room : ℕ
-  pub places : ℕ → List (Row V)
-  pub vars : List Variable
+abbrev pub state : {V : Type 0} {G : Ghosts V} → Sheet V G → State V
+state s = desks.state s.desk
 
-abbrev pub placed : ℕ → Bool
-placed p = nat_lt p 8
-
-abbrev pub seen : {V : Type 0} → Contents V → List Variable → State V
-seen c vs = record { room = c.room; places = λ p. cond (placed p) (c.tables p) []; vars = vs }
-
-abbrev pub state : {V : Type 0} → Sheet V → State V
-state s = seen (contents s.areas) (variables s.format)
-
-abbrev pub opened : {V : Type 0} → ℕ → List Variable → State V
-opened n vs = record { room = capacity n; places = λ _. []; vars = vs }
-
-abbrev pub stored : {V : Type 0} → State V → ℕ → List (Row V) → State V
-stored s r xs = record { room = s.room; places = λ p. cond (p == r) xs (s.places p); vars = s.vars }
-
-abbrev pub kept : {V : Type 0} → State V → ℕ → Result (List (Row V)) Refusal → State V
-kept s r (Ok xs) = stored s r xs
-kept s r (Err e) = s
-
-pub record Blank {V : Type 0} (K : Kind V) (s : Sheet V) : Type 0 where
-  pub tidy : Tidy K s.areas
-  pub working : (a : ℕ) → 8 ≤ a → a < 12 → (contents s.areas).tables a ≡ []
+abbrev pub lent : {V : Type 0} {G : Ghosts V} → Sheet V G → Lent V
+lent s = lent_of s.desk

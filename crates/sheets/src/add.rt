@@ -1,11 +1,15 @@
 // The sum of two places.
 ghost use Rattle.std.specs.Prelude.{◌≡◌};
 ghost use Rattle.areas.specs.Areas.{answered};
-ghost use Rattle.sheets.specs.Sheets.{state, kept, Blank};
+ghost use Rattle.sheets.specs.States.{kept};
+ghost use Rattle.sheets.specs.Sheets.{state, lent};
+ghost use Rattle.sheets.specs.Lent.{add_answer, add_leaves};
+ghost use Rattle.sheets.specs.Sums.{Adding as AddingRows};
 ghost use Rattle.sheets.specs.Calls.{added};
 ghost use Rattle.sheets.specs.Promises.{Adding};
 
 use crate::finish::made_in;
+use crate::place::Place;
 use crate::sheet::Sheet;
 use refusals::Refusal;
 use rings::Ring;
@@ -15,13 +19,15 @@ impl<K: Ring> Sheet<'_, K> {
     pub fn add(&mut self, res: usize, left: usize, right: usize) -> Result<(), Refusal>
         ensures answer { result ≡ answered (added K.kind (state self.old) res left right) }
         ensures leaves { state self.new ≡ kept (state self.old) res (added K.kind (state self.old) res left right) }
-        ensures blank { Blank K.kind self.old → Blank K.kind self.new }
+        ensures told { result ≡ answered (add_answer K.kind (lent self.old) res left right) }
+        ensures lent { lent self.new ≡ add_leaves K.kind (lent self.old) res left right }
+        ensures sums { AddingRows K.kind (lent self.old) (lent self.new) res left right result }
         ensures algebra { Adding K.kind (state self.old) (state self.new) result res left right }
     {
-        if res > 7 || left > 7 || right > 7 {
-            return Err(Refusal::Place);
-        }
-        let made = made_in(8, self.areas.add(8, left, right));
-        self.finish(res, made)
+        let res = Place::try_from(res)?;
+        let left = Place::try_from(left)?;
+        let right = Place::try_from(right)?;
+        let answer = self.desk.areas.add(8, left.area, right.area);
+        self.desk.finish(res, made_in(8, answer))
     }
 }

@@ -1,10 +1,13 @@
 // A constant.
 ghost use Rattle.std.specs.Prelude.{◌≡◌};
 ghost use Rattle.areas.specs.Areas.{answered};
-ghost use Rattle.sheets.specs.Sheets.{state, kept, Blank};
+ghost use Rattle.sheets.specs.States.{kept};
+ghost use Rattle.sheets.specs.Sheets.{state, lent};
+ghost use Rattle.sheets.specs.Lent.{constant_answer, kept as kept_rows};
 ghost use Rattle.sheets.specs.Calls.{constant};
 ghost use Rattle.sheets.specs.Promises.{Constant};
 
+use crate::place::Place;
 use crate::sheet::Sheet;
 use refusals::Refusal;
 use rings::Ring;
@@ -15,18 +18,17 @@ impl<K: Ring> Sheet<'_, K> {
     pub fn constant(&mut self, res: usize, first: i64, second: i64) -> Result<(), Refusal>
         ensures answer { result ≡ answered (constant K.kind (state self.old) res first second) }
         ensures leaves { state self.new ≡ kept (state self.old) res (constant K.kind (state self.old) res first second) }
-        ensures blank { Blank K.kind self.old → Blank K.kind self.new }
+        ensures told { result ≡ answered (constant_answer K.kind (lent self.old) res first second) }
+        ensures lent { lent self.new ≡ kept_rows K.kind (lent self.old) res (constant_answer K.kind (lent self.old) res first second) }
         ensures algebra { Constant K.kind (state self.old) (state self.new) result res first second }
     {
-        if res > 7 {
-            return Err(Refusal::Place);
-        }
+        let res = Place::try_from(res)?;
         let coefficient = K::from_figures(first, second)?;
         if coefficient.is_zero() {
-            self.areas.clear(res);
+            self.desk.areas.clear(res.area);
             return Ok(());
         }
-        let made = self.single(0, coefficient);
-        self.finish(res, made)
+        let made = self.desk.single(0, coefficient);
+        self.desk.finish(res, made)
     }
 }

@@ -1,15 +1,20 @@
 // The exact quotient of two places. The remainder is in the areas 10 and 11, the quotient in the area 8.
-ghost use Rattle.std.specs.Prelude.{◌≡◌, ◌<◌, true};
+ghost use Rattle.std.specs.Prelude.{◌≡◌, true};
 ghost use Rattle.formats.specs.Drafts.{variables};
 ghost use Rattle.areas.specs.Areas.{answered};
 ghost use Rattle.arithmetic.specs.Dividing.{opposed, leading as leading_quotient, quotient as quotient_rows};
-ghost use Rattle.sheets.specs.Sheets.{state, kept, Blank};
+ghost use Rattle.sheets.specs.Desks as desks;
+ghost use Rattle.sheets.specs.States.{kept};
+ghost use Rattle.sheets.specs.Sheets.{state, lent};
+ghost use Rattle.sheets.specs.Lent.{kept as kept_rows};
 ghost use Rattle.sheets.specs.Calls.{divided};
 ghost use Rattle.sheets.specs.Ends.{Making};
 ghost use Rattle.sheets.specs.Promises.{Dividing};
 ghost use Rattle.sheets.specs.Working.{table};
 
+use crate::desk::Desk;
 use crate::leading::first_row;
+use crate::place::Place;
 use crate::product::greatest_of;
 use crate::sheet::Sheet;
 use formats::Format;
@@ -21,9 +26,9 @@ use rows::Row;
 fn quotient_row<K: Domain>(format: &Format, row: Row<K>, by: Row<K>) -> Result<Row<K>, Refusal>
     ensures { result ≡ leading_quotient K.quotient (variables format.now) row by }
 {
-    let Some(key) = format.difference(row.key, by.key) else {
-        return Err(Refusal::NoQuotient);
-    };
+    let key = format
+        .difference(row.key, by.key)
+        .ok_or(Refusal::NoQuotient)?;
     let coefficient = row.coefficient.divide(by.coefficient)?;
     Ok(Row { key, coefficient })
 }
@@ -33,44 +38,42 @@ fn opposite<K: Ring>(row: Row<K>) -> Row<K>
     ensures { result ≡ opposed K.kind row }
 {
     Row {
-        key: row.key,
         coefficient: row.coefficient.negative(),
+        ..row
     }
 }
 
-impl<K: Domain> Sheet<'_, K> {
+impl<K: Domain> Desk<'_, K> {
     // Divides the table in an area by that of another, leading row by leading row, and answers the area of the quotient.
-    pub(crate) fn quotient_in(&mut self, left: usize, right: usize) -> Result<usize, Refusal>
-        requires left { left < 8 }
-        requires right { right < 8 }
-        ensures { Making K.Ring.kind 8 self.old self.new (quotient_rows K.Ring.kind K.quotient (state self.old).vars (state self.old).room (table self.old left) (table self.old right)) result }
+    pub(crate) fn quotient_in(&mut self, left: Place, right: Place) -> Result<usize, Refusal>
+        ensures { Making K.Ring.kind 8 self.old self.new (quotient_rows K.Ring.kind K.quotient (desks.state self.old).vars (desks.state self.old).room (table self.old left.area) (table self.old right.area)) result }
     {
-        let Some(by) = first_row(self.areas.table(right)) else {
-            return Err(Refusal::ZeroDivisor);
-        };
-        let greatest = greatest_of(&self.format, self.areas.table(right));
+        let by = first_row(self.areas.table(right.area)).ok_or(Refusal::ZeroDivisor)?;
+        let greatest = greatest_of(&self.format, self.areas.table(right.area));
         self.areas.clear(8);
-        self.areas.copy(10, left);
+        self.areas.copy(10, left.area);
         let mut at = 10;
         while let Some(first) = first_row(self.areas.table(at)) {
             let row = quotient_row(&self.format, first, by)?;
             self.areas.push(8, row)?;
-            at = self.turn(at, right, &greatest, opposite(row))?;
+            at = self.turn(at, right.area, &greatest, opposite(row))?;
         }
         Ok(8)
     }
+}
 
+impl<K: Domain> Sheet<'_, K> {
     // Makes the exact quotient of two places the rows of a place. What that means in algebra rests on nonzero members having a nonzero product.
     pub fn divide(&mut self, res: usize, left: usize, right: usize) -> Result<(), Refusal>
         ensures answer { result ≡ answered (divided K.Ring.kind K.quotient (state self.old) res left right) }
         ensures leaves { state self.new ≡ kept (state self.old) res (divided K.Ring.kind K.quotient (state self.old) res left right) }
-        ensures blank { Blank K.Ring.kind self.old → Blank K.Ring.kind self.new }
+        ensures lent { lent self.new ≡ kept_rows K.Ring.kind (lent self.old) res (divided K.Ring.kind K.quotient (state self.old) res left right) }
         ensures algebra { K.Ring.whole ≡ true → Dividing K.Ring.kind (state self.old) (state self.new) result res left right }
     {
-        if res > 7 || left > 7 || right > 7 {
-            return Err(Refusal::Place);
-        }
-        let made = self.quotient_in(left, right);
-        self.finish(res, made)
+        let res = Place::try_from(res)?;
+        let left = Place::try_from(left)?;
+        let right = Place::try_from(right)?;
+        let made = self.desk.quotient_in(left, right);
+        self.desk.finish(res, made)
     }
 }

@@ -4,6 +4,7 @@ ghost use Rattle.sheets.specs.Sheets.{state};
 ghost use Rattle.sheets.specs.Calls.{same_rows, equal_answer};
 ghost use Rattle.sheets.specs.Promises.{Comparing};
 
+use crate::place::Place;
 use crate::sheet::Sheet;
 use refusals::Refusal;
 use rings::Ring;
@@ -13,17 +14,9 @@ use rows::Row;
 fn same_rows<K: Ring>(left: &[Row<K>], right: &[Row<K>]) -> bool
     ensures { result ≡ same_rows K.kind left.now right.now }
 {
-    if left.len() != right.len() {
-        return false;
-    }
-    for i in 0..left.len() {
-        let a = left[i];
-        let b = right[i];
-        if a.key != b.key || !a.coefficient.equals(b.coefficient) {
-            return false;
-        }
-    }
-    true
+    left.len() == right.len()
+        && left.iter().zip(right).all(|(a, b)| a.key == b.key
+            && a.coefficient.equals(b.coefficient))
 }
 
 impl<K: Ring> Sheet<'_, K> {
@@ -32,9 +25,11 @@ impl<K: Ring> Sheet<'_, K> {
         ensures answer { result ≡ equal_answer K.kind (state self.now) left right }
         ensures algebra { Comparing K.kind (state self.now) left right result }
     {
-        if left > 7 || right > 7 {
-            return Err(Refusal::Place);
-        }
-        Ok(same_rows(self.areas.table(left), self.areas.table(right)))
+        let left = Place::try_from(left)?;
+        let right = Place::try_from(right)?;
+        Ok(same_rows(
+            self.desk.areas.table(left.area),
+            self.desk.areas.table(right.area),
+        ))
     }
 }

@@ -1,10 +1,11 @@
 // The end of a call.
-ghost use Rattle.std.specs.Prelude.{◌≡◌, ◌<◌};
+ghost use Rattle.std.specs.Prelude.{◌≡◌};
 ghost use Rattle.areas.specs.Areas.{contents, Tidy};
-ghost use Rattle.sheets.specs.Sheets.{state, Blank};
+ghost use Rattle.sheets.specs.Desks.{state, Blank};
 ghost use Rattle.sheets.specs.Ends.{made_in, ended, finished};
 
-use crate::sheet::Sheet;
+use crate::desk::Desk;
+use crate::place::Place;
 use refusals::Refusal;
 use rings::Ring;
 
@@ -12,13 +13,10 @@ use rings::Ring;
 pub(crate) fn made_in(area: usize, answer: Result<(), Refusal>) -> Result<usize, Refusal>
     ensures { result ≡ made_in area answer }
 {
-    match answer {
-        Ok(()) => Ok(area),
-        Err(refusal) => Err(refusal),
-    }
+    answer.map(|()| area)
 }
 
-impl<K: Ring> Sheet<'_, K> {
+impl<K: Ring> Desk<'_, K> {
     // Empties the working areas.
     pub(crate) fn sweep(&mut self)
         ensures leaves { state self.new ≡ state self.old }
@@ -31,20 +29,15 @@ impl<K: Ring> Sheet<'_, K> {
     }
 
     // Stores the table of the area that a call made its result in, unless it was refused, and empties the working areas.
-    pub(crate) fn finish(&mut self, res: usize, made: Result<usize, Refusal>) -> Result<(), Refusal>
-        requires { res < 8 }
+    pub(crate) fn finish(&mut self, res: Place, made: Result<usize, Refusal>) -> Result<(), Refusal>
         ensures answer { result ≡ ended made }
-        ensures leaves { state self.new ≡ finished (state self.old) (contents self.old.areas) res made }
+        ensures leaves { state self.new ≡ finished (state self.old) (contents self.old.areas) res.area made }
         ensures blank { Tidy K.kind self.old.areas → Blank K.kind self.new }
     {
-        let answer = match made {
-            Ok(area) => {
-                self.areas.copy(res, area);
-                Ok(())
-            }
-            Err(refusal) => Err(refusal),
-        };
+        if let Ok(area) = made {
+            self.areas.copy(res.area, area);
+        }
         self.sweep();
-        answer
+        made.map(|_| ())
     }
 }

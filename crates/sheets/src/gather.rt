@@ -1,38 +1,30 @@
-// The rows of a table that make products of low degree with a row.
-ghost use Rattle.std.specs.Prelude.{◌≡◌, ◌+◌, ◌<◌, take, nat_le};
-ghost use Rattle.formats.specs.Drafts.{variables};
-ghost use Rattle.formats.specs.Exponents.{degree as degree_of};
-ghost use Rattle.formats.specs.Keys.{unpack};
+// The rows of a place that a truncation keeps the products of with a row.
+ghost use Rattle.std.specs.Prelude.{◌≡◌};
 ghost use Rattle.arithmetic.specs.Truncating.{near};
-ghost use Rattle.sheets.specs.Sheets.{state};
+ghost use Rattle.sheets.specs.Desks.{state};
 ghost use Rattle.sheets.specs.Working.{table, but, Kept};
 
-use crate::sheet::Sheet;
-use formats::Format;
+use crate::desk::Desk;
+use crate::place::Place;
+use crate::truncation::Truncation;
 use rings::Ring;
 use rows::Row;
 
-// Whether the first `count` exponents of a key make at most `most` together with `degree`.
-fn is_low(format: &Format, key: u64, degree: u32, count: usize, most: u32) -> bool
-    ensures { result ≡ nat_le (degree_of (take count (unpack (variables format.now) key)) + degree) most }
-{
-    format.degree(key, count) as u64 + degree as u64 <= most as u64
-}
-
-impl<K: Ring> Sheet<'_, K> {
-    // Makes the rows of a table that make products of degree at most `most` with a row, in the first `count` variables, the table of the area 9.
-    pub(crate) fn gather(&mut self, left: usize, row: Row<K>, count: usize, most: u32)
-        requires { left < 9 }
+impl<K: Ring> Desk<'_, K> {
+    // Makes the rows of a place whose products with a row the truncation keeps the table of the area 9.
+    pub(crate) fn gather(&mut self, left: Place, row: Row<K>, truncation: Truncation)
         ensures kept { Kept K.kind (but 9) self.old self.new }
-        ensures rows { table self.new 9 ≡ near (state self.old).vars count most (table self.old left) row }
+        ensures rows { table self.new 9 ≡ near (state self.old).vars truncation.count truncation.most (table self.old left.area) row }
     {
-        let degree = self.format.degree(row.key, count);
-        self.areas.clear(9);
-        for i in 0..self.areas.table(left).len() {
-            let other = self.areas.table(left)[i];
-            if is_low(&self.format, other.key, degree, count, most) {
-                let _ = self.areas.push(9, other);
-            }
-        }
+        let format = self.format;
+        let degree = format.degree(row.key, truncation.count);
+        // None of them is refused: an area has room for the rows of another.
+        let _ = self.change_rows(9, left, |other| {
+            Ok(
+                truncation
+                    .keeps_product(&format, other.key, degree)
+                    .then_some(other),
+            )
+        });
     }
 }

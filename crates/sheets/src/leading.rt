@@ -4,6 +4,7 @@ ghost use Rattle.sheets.specs.Sheets.{state};
 ghost use Rattle.sheets.specs.Calls.{row_leading, leading_answer};
 ghost use Rattle.sheets.specs.Promises.{LeadingRow};
 
+use crate::place::Place;
 use crate::sheet::Sheet;
 use refusals::Refusal;
 use rings::Ring;
@@ -13,10 +14,7 @@ use rows::Row;
 pub(crate) fn first_row<K: Copy>(rows: &[Row<K>]) -> Option<Row<K>>
     ensures { result ≡ row_leading rows.now }
 {
-    if rows.len() == 0 {
-        return None;
-    }
-    Some(rows[0])
+    rows.first().copied()
 }
 
 impl<K: Ring> Sheet<'_, K> {
@@ -25,9 +23,7 @@ impl<K: Ring> Sheet<'_, K> {
         ensures answer { result ≡ leading_answer (state self.now) place }
         ensures algebra { LeadingRow K.kind (state self.now) place result }
     {
-        if place > 7 {
-            return Err(Refusal::Place);
-        }
-        Ok(first_row(self.areas.table(place)))
+        let place = Place::try_from(place)?;
+        Ok(first_row(self.desk.areas.table(place.area)))
     }
 }

@@ -1,10 +1,13 @@
 // The product of two places.
 ghost use Rattle.std.specs.Prelude.{◌≡◌};
 ghost use Rattle.areas.specs.Areas.{answered};
-ghost use Rattle.sheets.specs.Sheets.{state, kept, Blank};
+ghost use Rattle.sheets.specs.States.{kept};
+ghost use Rattle.sheets.specs.Sheets.{state, lent};
+ghost use Rattle.sheets.specs.Lent.{kept as kept_rows};
 ghost use Rattle.sheets.specs.Calls.{multiplied};
 ghost use Rattle.sheets.specs.Promises.{Multiplying};
 
+use crate::place::Place;
 use crate::sheet::Sheet;
 use refusals::Refusal;
 use rings::Ring;
@@ -14,13 +17,13 @@ impl<K: Ring> Sheet<'_, K> {
     pub fn multiply(&mut self, res: usize, left: usize, right: usize) -> Result<(), Refusal>
         ensures answer { result ≡ answered (multiplied K.kind (state self.old) res left right) }
         ensures leaves { state self.new ≡ kept (state self.old) res (multiplied K.kind (state self.old) res left right) }
-        ensures blank { Blank K.kind self.old → Blank K.kind self.new }
+        ensures lent { lent self.new ≡ kept_rows K.kind (lent self.old) res (multiplied K.kind (state self.old) res left right) }
         ensures algebra { Multiplying K.kind (state self.old) (state self.new) result res left right }
     {
-        if res > 7 || left > 7 || right > 7 {
-            return Err(Refusal::Place);
-        }
-        let made = self.product_in(left, right);
-        self.finish(res, made)
+        let res = Place::try_from(res)?;
+        let left = Place::try_from(left)?;
+        let right = Place::try_from(right)?;
+        let made = self.desk.product_in(left.area, right.area);
+        self.desk.finish(res, made)
     }
 }

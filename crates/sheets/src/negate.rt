@@ -2,17 +2,22 @@
 ghost use Rattle.std.specs.Prelude.{◌≡◌};
 ghost use Rattle.arithmetic.specs.Negating.{minus_one};
 ghost use Rattle.areas.specs.Areas.{answered};
-ghost use Rattle.sheets.specs.Sheets.{state, kept, Blank};
+ghost use Rattle.sheets.specs.Desks as desks;
+ghost use Rattle.sheets.specs.States.{kept};
+ghost use Rattle.sheets.specs.Sheets.{state, lent};
+ghost use Rattle.sheets.specs.Lent.{kept as kept_rows};
 ghost use Rattle.sheets.specs.Calls.{negated};
 ghost use Rattle.sheets.specs.Promises.{Negating};
 
+use crate::desk::Desk;
 use crate::finish::made_in;
+use crate::place::Place;
 use crate::sheet::Sheet;
 use refusals::Refusal;
 use rings::Ring;
 use rows::Row;
 
-impl<K: Ring> Sheet<'_, K> {
+impl<K: Ring> Desk<'_, K> {
     // The row with which a table is multiplied to give its negative.
     pub(crate) fn minus_one() -> Row<K>
         ensures { result ≡ minus_one K.kind }
@@ -22,19 +27,23 @@ impl<K: Ring> Sheet<'_, K> {
             coefficient: K::one().negative(),
         }
     }
+}
 
+impl<K: Ring> Sheet<'_, K> {
     // Makes the negative of a place the rows of a place.
     pub fn negate(&mut self, res: usize, place: usize) -> Result<(), Refusal>
         ensures answer { result ≡ answered (negated K.kind (state self.old) res place) }
         ensures leaves { state self.new ≡ kept (state self.old) res (negated K.kind (state self.old) res place) }
-        ensures blank { Blank K.kind self.old → Blank K.kind self.new }
+        ensures lent { lent self.new ≡ kept_rows K.kind (lent self.old) res (negated K.kind (state self.old) res place) }
         ensures algebra { Negating K.kind (state self.old) (state self.new) result res place }
     {
-        if res > 7 || place > 7 {
-            return Err(Refusal::Place);
-        }
-        self.areas.clear(9);
-        let made = made_in(8, self.areas.add_scaled(8, 9, place, Self::minus_one()));
-        self.finish(res, made)
+        let res = Place::try_from(res)?;
+        let place = Place::try_from(place)?;
+        self.desk.areas.clear(9);
+        let answer = self
+            .desk
+            .areas
+            .add_scaled(8, 9, place.area, Desk::minus_one());
+        self.desk.finish(res, made_in(8, answer))
     }
 }

@@ -1,8 +1,11 @@
 // Opening a sheet.
 ghost use Rattle.std.specs.Prelude.{◌≡◌, length};
 ghost use Rattle.formats.specs.Drafts.{variables};
-ghost use Rattle.sheets.specs.Sheets.{state, opened, Blank};
+ghost use Rattle.sheets.specs.States.{opened};
+ghost use Rattle.sheets.specs.Sheets.{state, lent};
+ghost use Rattle.sheets.specs.Lent.{opened as opened_rows};
 
+use crate::desk::Desk;
 use crate::sheet::Sheet;
 use areas::Areas;
 use formats::Format;
@@ -13,9 +16,11 @@ impl<'a, K: Ring> Sheet<'a, K> {
     // A sheet on the rows, with every place empty. What the rows held is gone.
     pub fn open(rows: &'a mut [Row<K>], format: Format) -> Sheet<'a, K>
         ensures state { state result ≡ opened (length rows.old) (variables format) }
-        ensures blank { Blank K.kind result }
+        ensures lent { lent result ≡ opened_rows K.kind (length rows.old) (variables format) }
     {
         let areas = Areas::open(rows);
-        Sheet { areas, format }
+        Sheet {
+            desk: Desk { areas, format },
+        }
     }
 }

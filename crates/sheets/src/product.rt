@@ -3,12 +3,12 @@ ghost use Rattle.std.specs.Prelude.{◌≡◌, ◌-◌, ◌<◌, ◌≤◌, repl
 ghost use Rattle.formats.specs.Drafts.{variables};
 ghost use Rattle.areas.specs.Areas.{answered};
 ghost use Rattle.arithmetic.specs.Multiplying.{product};
-ghost use Rattle.sheets.specs.Sheets.{state};
+ghost use Rattle.sheets.specs.Desks.{state};
 ghost use Rattle.sheets.specs.Ends.{made_in, Making};
 ghost use Rattle.sheets.specs.Working.{highest, turned, table};
 
+use crate::desk::Desk;
 use crate::finish::made_in;
-use crate::sheet::Sheet;
 use formats::Format;
 use refusals::Refusal;
 use rings::Ring;
@@ -25,7 +25,7 @@ pub(crate) fn greatest_of<K: Copy>(format: &Format, rows: &[Row<K>]) -> [u16; 8]
     greatest
 }
 
-impl<K: Ring> Sheet<'_, K> {
+impl<K: Ring> Desk<'_, K> {
     // Adds the table in `factors`, whose greatest exponents are `greatest`, times a row to the running table in the area `at`, and answers the area of the new one.
     pub(crate) fn turn(
         &mut self,
@@ -55,9 +55,9 @@ impl<K: Ring> Sheet<'_, K> {
     {
         let greatest = greatest_of(&self.format, self.areas.table(left));
         self.areas.clear(10);
-        let count = self.areas.table(right).len();
         let mut at = 10;
-        for i in 0..count {
+        // By index: the rows of all areas are lent together, and the body writes to them.
+        for i in 0..self.areas.table(right).len() {
             let row = self.areas.table(right)[i];
             at = self.turn(at, left, &greatest, row)?;
         }

@@ -2,10 +2,12 @@
 ghost use Rattle.std.specs.Prelude.{◌≡◌, ◌<◌, [], ◌∷◌, length};
 ghost use Rattle.rows.specs.Tables.{row as row_of, sum, limited};
 ghost use Rattle.areas.specs.Areas.{answered, rows_of};
-ghost use Rattle.sheets.specs.Sheets.{state, kept, Blank};
+ghost use Rattle.sheets.specs.States.{kept};
+ghost use Rattle.sheets.specs.Desks.{state, Blank};
 ghost use Rattle.sheets.specs.Running.{running, Neat, below_last, entering, storing_running};
 
-use crate::sheet::Sheet;
+use crate::desk::Desk;
+use crate::place::Place;
 use refusals::Refusal;
 use rings::Ring;
 use rows::Row;
@@ -14,10 +16,10 @@ use rows::Row;
 fn below_last<K: Ring>(key: u64, rows: &[Row<K>]) -> bool
     ensures { result ≡ below_last key rows.now }
 {
-    rows.len() == 0 || key < rows[rows.len() - 1].key
+    rows.last().is_none_or(|last| key < last.key)
 }
 
-impl<K: Ring> Sheet<'_, K> {
+impl<K: Ring> Desk<'_, K> {
     // Empties the running table.
     pub fn begin(&mut self)
         ensures empty { running self.new ≡ [] }
@@ -66,11 +68,13 @@ impl<K: Ring> Sheet<'_, K> {
         ensures leaves { state self.new ≡ kept (state self.old) place (storing_running self.old place) }
         ensures blank { Neat K.kind self.old → Blank K.kind self.new }
     {
-        if place > 7 {
-            self.sweep();
-            return Err(Refusal::Place);
+        match Place::try_from(place) {
+            Ok(place) => self.finish(place, Ok(8)),
+            Err(refusal) => {
+                self.sweep();
+                Err(refusal)
+            }
         }
-        self.finish(place, Ok(8))
     }
 
     // Gives the running table up.

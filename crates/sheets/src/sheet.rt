@@ -1,10 +1,12 @@
-// The sheet itself.
-use areas::Areas;
-use formats::Format;
+// The sheet itself: a desk at rest.
+ghost use Rattle.sheets.specs.Desks.{Blank};
 
-// The first eight areas are the places; the other four are for working, and empty between calls.
+use crate::desk::Desk;
+use rings::Ring;
+
+// Between calls every lent row that is no row of a place is blank. A crate that works on the desk has to bring it to rest again.
 #[derive(Drop)]
-pub struct Sheet<'a, K> {
-    pub(crate) areas: Areas<'a, K>,
-    pub(crate) format: Format,
+pub struct Sheet<'a, K: Ring> {
+    pub desk: Desk<'a, K>,
+    ghost at_rest: { Blank K.kind desk },
 }

@@ -1,12 +1,18 @@
 // A place cut to its terms of low degree.
-ghost use Rattle.std.specs.Prelude.{◌≡◌};
+ghost use Rattle.std.specs.Prelude.{◌≡◌, Ok};
+ghost use Rattle.formats.specs.Drafts.{variables};
 ghost use Rattle.areas.specs.Areas.{answered};
-ghost use Rattle.sheets.specs.Sheets.{state, kept, Blank};
+ghost use Rattle.sheets.specs.States.{kept};
+ghost use Rattle.sheets.specs.Sheets.{state, lent};
+ghost use Rattle.sheets.specs.Lent.{kept as kept_rows};
 ghost use Rattle.sheets.specs.Calls.{truncated};
+ghost use Rattle.sheets.specs.Changes.{row_low};
 ghost use Rattle.sheets.specs.Promises.{Truncating};
 
-use crate::change::Change;
+use crate::finish::made_in;
+use crate::place::Place;
 use crate::sheet::Sheet;
+use crate::truncation::Truncation;
 use refusals::Refusal;
 use rings::Ring;
 
@@ -21,16 +27,23 @@ impl<K: Ring> Sheet<'_, K> {
     ) -> Result<(), Refusal>
         ensures answer { result ≡ answered (truncated (state self.old) res place count most) }
         ensures leaves { state self.new ≡ kept (state self.old) res (truncated (state self.old) res place count most) }
-        ensures blank { Blank K.kind self.old → Blank K.kind self.new }
+        ensures lent { lent self.new ≡ kept_rows K.kind (lent self.old) res (truncated (state self.old) res place count most) }
         ensures algebra { Truncating K.kind (state self.old) (state self.new) result res place count most }
     {
-        if res > 7 || place > 7 {
-            return Err(Refusal::Place);
-        }
-        if count > self.format.count() {
+        let res = Place::try_from(res)?;
+        let place = Place::try_from(place)?;
+        if count > self.desk.format.count() {
             return Err(Refusal::Prefix);
         }
-        let made = self.change_rows(place, Change::Truncate { count, most });
-        self.finish(res, made)
+        let format = self.desk.format;
+        let truncation = Truncation { count, most };
+        let answer = self.desk.change_rows(
+            8,
+            place,
+            |row|
+                ensures { result ≡ Ok (row_low (variables format) truncation.count truncation.most row) }
+            { Ok(truncation.keeps(&format, row.key).then_some(row)) },
+        );
+        self.desk.finish(res, made_in(8, answer))
     }
 }

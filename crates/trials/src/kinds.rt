@@ -1,30 +1,19 @@
 // What a kind answers, written out.
 use refusals::Refusal;
-use rings::{Domain, Ring};
+use rings::{Domain, Figures, Ring};
 use std::io;
 
 // Prints the figures of an answer, or the number of its refusal.
 fn show<K: Ring>(rt: &HostRuntime, name: &str, answer: Result<K, Refusal>) -> io::Result<()> {
     match answer {
-        Err(refusal) => {
-            let number = refusal.number();
-            println!(rt; "{name} refused {number}")
-        }
-        Ok(value) => {
-            let (first, second) = value.figures();
-            if K::figure_count() == 1 {
-                println!(rt; "{name} {first}")
-            } else {
-                println!(rt; "{name} {first},{second}")
-            }
-        }
+        Ok(value) => println!(rt; "{name} {}", Figures(value)),
+        Err(refusal) => println!(rt; "{name} refused {refusal}"),
     }
 }
 
 // What one value answers by itself.
 fn alone<K: Ring>(rt: &HostRuntime, a: K) -> io::Result<()> {
-    let zero = a.is_zero();
-    println!(rt; "zero {zero}")?;
+    println!(rt; "zero {}", a.is_zero())?;
     show(rt, "negative", Ok(a.negative()))?;
     show(rt, "times 0", a.multiple(0))?;
     show(rt, "times 1", a.multiple(1))?;
@@ -35,19 +24,24 @@ fn alone<K: Ring>(rt: &HostRuntime, a: K) -> io::Result<()> {
 
 // What it answers with another.
 fn together<K: Ring>(rt: &HostRuntime, a: K, b: K) -> io::Result<()> {
-    let same = a.equals(b);
-    println!(rt; "equal {same}")?;
+    println!(rt; "equal {}", a.equals(b))?;
     show(rt, "plus", a.plus(b))?;
     show(rt, "times", a.times(b))
 }
 
-// The sums and products of a value with each that the figures make.
-fn row<K: Ring>(rt: &HostRuntime, a: K, list: &[(i64, i64)]) -> io::Result<()> {
-    for i in 0..list.len() {
-        let (first, second) = list[i];
-        if let Ok(b) = K::from_figures(first, second) {
-            println!(rt; "with {first} {second}")?;
-            together(rt, a, b)?;
+// What `write` writes of each value that the figures make, after a line that names the figures.
+fn each<K: Ring, F: Fn(K) -> io::Result<()>>(
+    rt: &HostRuntime,
+    name: &str,
+    list: &[(i64, i64)],
+    write: F,
+) -> io::Result<()>
+    requires { F.IsAlwaysCallable write }
+{
+    for &(first, second) in list {
+        if let Ok(value) = K::from_figures(first, second) {
+            println!(rt; "{name} {first} {second}")?;
+            write(value)?;
         }
     }
     Ok(())
@@ -57,39 +51,21 @@ fn row<K: Ring>(rt: &HostRuntime, a: K, list: &[(i64, i64)]) -> io::Result<()> {
 pub(crate) fn operations<K: Ring>(rt: &HostRuntime, list: &[(i64, i64)]) -> io::Result<()> {
     show(rt, "zero", Ok(K::zero()))?;
     show(rt, "one", Ok(K::one()))?;
-    for i in 0..list.len() {
-        let (first, second) = list[i];
+    for &(first, second) in list {
         println!(rt; "figures {first} {second}")?;
         let made: Result<K, Refusal> = K::from_figures(first, second);
         show(rt, "made", made)?;
         if let Ok(a) = made {
             alone(rt, a)?;
-            row(rt, a, list)?;
+            each(rt, "with", list, |b| together(rt, a, b))?;
         }
     }
     Ok(())
 }
 
-// A value divided by each that the figures make.
-fn quotients<K: Domain>(rt: &HostRuntime, a: K, list: &[(i64, i64)]) -> io::Result<()> {
-    for i in 0..list.len() {
-        let (first, second) = list[i];
-        if let Ok(b) = K::from_figures(first, second) {
-            println!(rt; "by {first} {second}")?;
-            show(rt, "quotient", a.divide(b))?;
-        }
-    }
-    Ok(())
-}
-
-// The quotients of the values that the figures make.
+// The quotients of the values that the figures make, each by each.
 pub(crate) fn divisions<K: Domain>(rt: &HostRuntime, list: &[(i64, i64)]) -> io::Result<()> {
-    for i in 0..list.len() {
-        let (first, second) = list[i];
-        if let Ok(a) = K::from_figures(first, second) {
-            println!(rt; "divide {first} {second}")?;
-            quotients(rt, a, list)?;
-        }
-    }
-    Ok(())
+    each(rt, "divide", list, |a: K| {
+        each(rt, "by", list, |b| show(rt, "quotient", a.divide(b)))
+    })
 }

@@ -3,21 +3,25 @@
 --     ran_none, ran_more      no call, and one call more
 --     goes_on                 a use that goes on
 --     Turn, turn_none, turn_more      what holds in the loop, and that it does
-use Rattle.std.proofs.Common.{◌≡◌, ℕ, ◌+◌, ◌<◌, Bool, true, false, List, [], ◌∷◌, ◌++◌, map, length, get_or, take, drop, set, sym, refl, ap, ◌∙◌, subst, arith}
+--     calls_allowed           a list has divisions only where there are some
+use Rattle.std.proofs.Common.{◌≡◌, ℕ, ◌+◌, ◌<◌, Bool, true, false, List, [], ◌∷◌, ◌++◌, map, length, get_or, take, drop, set, Result, sym, refl, ap, ◌∙◌, subst, arith}
+use Rattle.std.proofs.lemmas.Bool.{true≢false}
 use Rattle.std.proofs.lemmas.List.{take_more, take_more_set, map_push, drop_more, drop-set-lt}
 use Rattle.rings.specs.Kinds.{Kind}
 use Rattle.formats.specs.declared.variable.Variable.{Variable}
 use Rattle.arithmetic.specs.Dividing.{Over}
 use Rattle.algebra.specs.Tables.{Every}
-use Rattle.sheets.specs.Sheets.{State, opened}
+use Rattle.sheets.specs.States.{State, opened}
+use Rattle.cards.specs.declared.reading.ReadFault.{ReadFault}
 use Rattle.conduct.specs.Calls.{Call, Answer, divides, answer, after, after_all}
 use Rattle.conduct.specs.Uses.{Allowed, Promise, left}
 use Rattle.uses.specs.Answers.{answer_of}
-use Rattle.uses.specs.Performing.{plain_call_of, output_after}
+use Rattle.uses.specs.Performing.{call_of, output_after}
 use Rattle.uses.specs.Runs.{answers_all, output_all, Ran, Onward}
-use Rattle.uses.specs.declared.call.Answer.{Answer as Told}
-use Rattle.uses.specs.declared.call.Call.{Call as Plain}
-use Rattle.uses.specs.declared.call.Call.TheVariants.{Read, Constant, Variable as Variable', Copied, Negate, Add, Subtract, Multiply, Differentiate, Substitute, Truncate, MultiplyTruncate, Write, Equal, Leading}
+use Rattle.uses.specs.declared.call.Call.{Call as Given}
+use Rattle.uses.specs.declared.call.Call.TheVariants.{Read, Constant, Variable as Variable', Copied, Negate, Add, Subtract, Multiply, Divide, Differentiate, Substitute, Truncate, MultiplyTruncate, Write, Equal, Leading}
+use Rattle.uses.specs.declared.call.Reply.{Reply}
+use Rattle.uses.specs.declared.division.Division.{Division}
 
 module _ {V : Type 0} (K : Kind V) (over : Over V) where
   pub after_more : (s : State V) (cs ds : List Call) → after_all K over s (cs ++ ds) ≡ after_all K over (after_all K over s cs) ds
@@ -58,53 +62,55 @@ module _ {V : Type 0} (K : Kind V) (over : Over V) (vs : List Variable) (may : B
     onward = λ u e. leaves ∙ ap (λ x. after_all K over x cs) e ∙ sym (after_more K over (opened u.rows vs) u.calls cs);
   }
 
-module _ {V X : Type 0} (K : Kind V) (over : Over V) (call : X → Call) (s : State V) (calls : List X) (old : List ℕ) where
+abbrev pub Told : Type 0 → Type 0
+Told V = Result (Reply V) ReadFault
+
+module _ {V X : Type 0} (K : Kind V) (call : X → Call) (s : State V) (calls : List X) (old : List ℕ) where
   -- i calls are performed
-  abbrev pub Going : ℕ → State V → List (Told V) → List ℕ → Type 0
-  Going i t told out = Ran K over s (map call (take i calls)) old t (map answer_of (take i told)) out
+  abbrev pub Going : Over V → ℕ → State V → List (Told V) → List ℕ → Type 0
+  Going over i t told out = Ran K over s (map call (take i calls)) old t (map answer_of (take i told)) out
 
-  pub going_none : (told : List (Told V)) → Going 0 s told old
-  going_none told = ran_none K over s old
-
-  pub going_more : (i : ℕ) (t u : State V) (told : List (Told V)) (a : Told V) (out new : List ℕ) (x : X) → i < length calls → i < length told → x ≡ get_or calls i x → Going i t told out → u ≡ after K over t (call x) → answer_of a ≡ answer K over t (call x) → new ≡ output_after K t (call x) out → Going (i + 1) u (set told i a) new
-  going_more i t u told a out new x lt lt' is before leaves tells wrote =
+  going_more : (over : Over V) (i : ℕ) (t u : State V) (told : List (Told V)) (a : Told V) (out new : List ℕ) (x : X) → i < length calls → i < length told → x ≡ get_or calls i x → Going over i t told out → u ≡ after K over t (call x) → answer_of a ≡ answer K over t (call x) → new ≡ output_after K t (call x) out → Going over (i + 1) u (set told i a) new
+  going_more over i t u told a out new x lt lt' is before leaves tells wrote =
       let cs : map call (take i calls) ++ call x ∷ [] ≡ map call (take (i + 1) calls) = sym (ap (map call) (take_more calls i x lt ∙ ap (λ y. take i calls ++ y ∷ []) (sym is)) ∙ map_push call (take i calls) x) in
       let as' : map answer_of (take i told) ++ answer_of a ∷ [] ≡ map answer_of (take (i + 1) (set told i a)) = sym (ap (map answer_of) (take_more_set told i a lt') ∙ map_push answer_of (take i told) a) in
       let P : List Call → List (Answer V) → Type 0 = λ l m. Ran K over s l old u m new in
       subst (λ l. P l (map answer_of (take (i + 1) (set told i a)))) cs (subst (P (map call (take i calls) ++ call x ∷ [])) as' (ran_more K over s t u (map call (take i calls)) (call x) (map answer_of (take i told)) (answer_of a) old out new before leaves tells wrote))
 
-  -- and the answers past them are as they were
-  pub record Turn (before : List (Told V)) (i : ℕ) (t : State V) (told : List (Told V)) (out : List ℕ) : Type 0 where
-    pub ran : Going i t told out
+  -- by whichever quotients the calls divide; and the answers past them are as they were
+  pub record Turn (divides_by : Over V → Type 0) (before : List (Told V)) (i : ℕ) (t : State V) (told : List (Told V)) (out : List ℕ) : Type 0 where
+    pub ran : (over : Over V) → divides_by over → Going over i t told out
     pub others : drop i told ≡ drop i before
 
-  pub turn_none : (before : List (Told V)) → Turn before 0 s before old
-  turn_none before = record { ran = going_none before; others = refl }
+  pub turn_none : (divides_by : Over V → Type 0) (before : List (Told V)) → Turn divides_by before 0 s before old
+  turn_none divides_by before = record { ran = λ over by. ran_none K over s old; others = refl }
 
-  pub turn_more : (before : List (Told V)) (i : ℕ) (t u : State V) (told : List (Told V)) (a : Told V) (out new : List ℕ) (x : X) → i < length calls → i < length told → i < length before → x ≡ get_or calls i x → Turn before i t told out → u ≡ after K over t (call x) → answer_of a ≡ answer K over t (call x) → new ≡ output_after K t (call x) out → Turn before (i + 1) u (set told i a) new
-  turn_more before i t u told a out new x lt lt' lt'' is h leaves tells wrote = record {
-    ran = going_more i t u told a out new x lt lt' is h.ran leaves tells wrote;
+  pub turn_more : (divides_by : Over V → Type 0) (before : List (Told V)) (i : ℕ) (t u : State V) (told : List (Told V)) (a : Told V) (out new : List ℕ) (x : X) → i < length calls → i < length told → i < length before → x ≡ get_or calls i x → Turn divides_by before i t told out → ((over : Over V) → divides_by over → u ≡ after K over t (call x)) → ((over : Over V) → divides_by over → answer_of a ≡ answer K over t (call x)) → new ≡ output_after K t (call x) out → Turn divides_by before (i + 1) u (set told i a) new
+  turn_more divides_by before i t u told a out new x lt lt' lt'' is h leaves tells wrote = record {
+    ran = λ over by. going_more over i t u told a out new x lt lt' is (h.ran over by) (leaves over by) (tells over by) wrote;
     others = drop-set-lt (i + 1) told i a (omega arith) ∙ ap (drop 1) (sym (drop_more told i a lt') ∙ h.others ∙ drop_more before i a lt'');
   }
 
--- no plain call divides
-plain : (n : ℕ) (c : Plain) → divides (plain_call_of n c) ≡ false
-plain n (Read r text) = refl
-plain n (Constant r a b) = refl
-plain n (Variable' r v) = refl
-plain n (Copied r p) = refl
-plain n (Negate r p) = refl
-plain n (Add r p q) = refl
-plain n (Subtract r p q) = refl
-plain n (Multiply r p q) = refl
-plain n (Differentiate r p v) = refl
-plain n (Substitute r p q v) = refl
-plain n (Truncate r p k m) = refl
-plain n (MultiplyTruncate r p q k m) = refl
-plain n (Write p) = refl
-plain n (Equal p q) = refl
-plain n (Leading p) = refl
+module _ {D : Type 0} (division_of : D → Division) (n : ℕ) where
+  undivided : (D → false ≡ true) → (c : Given D) → divides (call_of division_of n c) ≡ false
+  undivided there (Read r text) = refl
+  undivided there (Constant r a b) = refl
+  undivided there (Variable' r v) = refl
+  undivided there (Copied r p) = refl
+  undivided there (Negate r p) = refl
+  undivided there (Add r p q) = refl
+  undivided there (Subtract r p q) = refl
+  undivided there (Multiply r p q) = refl
+  undivided there (Divide d) = absurd (true≢false (sym (there d)))
+  undivided there (Differentiate r p v) = refl
+  undivided there (Substitute r p q v) = refl
+  undivided there (Truncate r p k m) = refl
+  undivided there (MultiplyTruncate r p q k m) = refl
+  undivided there (Write p) = refl
+  undivided there (Equal p q) = refl
+  undivided there (Leading p) = refl
 
-pub plain_calls : (n : ℕ) (cs : List Plain) → Allowed false (map (plain_call_of n) cs)
-plain_calls n [] = tt
-plain_calls n (c ∷ cs) = (plain n c, plain_calls n cs)
+  pub calls_allowed : (may : Bool) → (D → may ≡ true) → (cs : List (Given D)) → Allowed may (map (call_of division_of n) cs)
+  calls_allowed true there cs = tt
+  calls_allowed false there [] = tt
+  calls_allowed false there (c ∷ cs) = (undivided there c, calls_allowed false there cs)

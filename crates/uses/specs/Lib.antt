@@ -1,3 +1,4 @@
 pub mod Answers
+pub mod Dividing
 pub mod Performing
 pub mod Runs

@@ -1,38 +1,33 @@
 -- Performing a call.
---     plain_call_of n c         the call c as the promise speaks of it, where n bytes of output are lent
---     domain_call_of n c        the same for a call that may be a division
+--     call_of division_of n c   the call c as the promise speaks of it, where division_of gives its division and n bytes of output are lent
 --     output_after K s c out    the output after the call c in the state s
 use Rattle.std.specs.Prelude.{ℕ, List}
 use Rattle.rings.specs.Kinds.{Kind}
-use Rattle.sheets.specs.Sheets.{State}
-use Rattle.sheet_decks.specs.Written.{write_leaves}
+use Rattle.sheets.specs.States.{State}
+use Rattle.cards.specs.Written.{write_leaves}
 use Rattle.conduct.specs.Calls as conduct
 use Rattle.conduct.specs.Calls.Call.{read, constant, variable, copy, negate, add, subtract, multiply, divide, differentiate, substitute, truncate, multiply_truncate, write, equal, leading}
 use Rattle.uses.specs.declared.call.Call.{Call}
-use Rattle.uses.specs.declared.call.Call.TheVariants.{Read, Constant, Variable, Copied, Negate, Add, Subtract, Multiply, Differentiate, Substitute, Truncate, MultiplyTruncate, Write, Equal, Leading}
-use Rattle.uses.specs.declared.domain.DomainCall.{DomainCall}
-use Rattle.uses.specs.declared.domain.DomainCall.TheVariants.{Plain, Divide}
+use Rattle.uses.specs.declared.call.Call.TheVariants.{Read, Constant, Variable, Copied, Negate, Add, Subtract, Multiply, Divide, Differentiate, Substitute, Truncate, MultiplyTruncate, Write, Equal, Leading}
+use Rattle.uses.specs.declared.division.Division.{Division}
 
-abbrev pub plain_call_of : ℕ → Call → conduct.Call
-plain_call_of n (Read r text) = read r text.now
-plain_call_of n (Constant r a b) = constant r a b
-plain_call_of n (Variable r v) = variable r v
-plain_call_of n (Copied r p) = copy r p
-plain_call_of n (Negate r p) = negate r p
-plain_call_of n (Add r p q) = add r p q
-plain_call_of n (Subtract r p q) = subtract r p q
-plain_call_of n (Multiply r p q) = multiply r p q
-plain_call_of n (Differentiate r p v) = differentiate r p v
-plain_call_of n (Substitute r p q v) = substitute r p q v
-plain_call_of n (Truncate r p k m) = truncate r p k m
-plain_call_of n (MultiplyTruncate r p q k m) = multiply_truncate r p q k m
-plain_call_of n (Write p) = write p n
-plain_call_of n (Equal p q) = equal p q
-plain_call_of n (Leading p) = leading p
-
-abbrev pub domain_call_of : ℕ → DomainCall → conduct.Call
-domain_call_of n (Plain c) = plain_call_of n c
-domain_call_of n (Divide r p q) = divide r p q
+abbrev pub call_of : {D : Type 0} → (D → Division) → ℕ → Call D → conduct.Call
+call_of division_of n (Read r text) = read r text.now
+call_of division_of n (Constant r a b) = constant r a b
+call_of division_of n (Variable r v) = variable r v
+call_of division_of n (Copied r p) = copy r p
+call_of division_of n (Negate r p) = negate r p
+call_of division_of n (Add r p q) = add r p q
+call_of division_of n (Subtract r p q) = subtract r p q
+call_of division_of n (Multiply r p q) = multiply r p q
+call_of division_of n (Divide d) = divide (division_of d).place (division_of d).dividend (division_of d).divisor
+call_of division_of n (Differentiate r p v) = differentiate r p v
+call_of division_of n (Substitute r p q v) = substitute r p q v
+call_of division_of n (Truncate r p k m) = truncate r p k m
+call_of division_of n (MultiplyTruncate r p q k m) = multiply_truncate r p q k m
+call_of division_of n (Write p) = write p n
+call_of division_of n (Equal p q) = equal p q
+call_of division_of n (Leading p) = leading p
 
 module _ {V : Type 0} (K : Kind V) (s : State V) where
   abbrev pub output_after : conduct.Call → List ℕ → List ℕ

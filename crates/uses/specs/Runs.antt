@@ -8,7 +8,7 @@ use Rattle.std.specs.Prelude.{◌≡◌, ℕ, Bool, List, [], ◌∷◌, ◌++�
 use Rattle.rings.specs.Kinds.{Kind}
 use Rattle.formats.specs.declared.variable.Variable.{Variable}
 use Rattle.arithmetic.specs.Dividing.{Over}
-use Rattle.sheets.specs.Sheets.{State}
+use Rattle.sheets.specs.States.{State}
 use Rattle.conduct.specs.Calls.{Call, Answer, answer, after, after_all}
 use Rattle.conduct.specs.Uses.{Use, Allowed, Promise, left}
 use Rattle.uses.specs.Performing.{output_after}

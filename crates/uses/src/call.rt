@@ -1,10 +1,10 @@
 // A call on a sheet, and what it answers.
-use refusals::Refusal;
+use cards::ReadFault;
 use rows::Row;
 
-// A call with its arguments, in the order that the sheet's own calls take them.
+// A call with its arguments, in the order that the sheet's own calls take them. Its division is a D.
 #[derive(Clone, Copy)]
-pub enum Call<'a> {
+pub enum Call<'a, D> {
     // the deck at the start of the text
     Read(usize, &'a [u8]),
     Constant(usize, i64, i64),
@@ -14,6 +14,7 @@ pub enum Call<'a> {
     Add(usize, usize, usize),
     Subtract(usize, usize, usize),
     Multiply(usize, usize, usize),
+    Divide(D),
     Differentiate(usize, usize, usize),
     Substitute(usize, usize, usize, usize),
     Truncate(usize, usize, usize, u32),
@@ -24,9 +25,9 @@ pub enum Call<'a> {
     Leading(usize),
 }
 
+// What an accepted call tells.
 #[derive(Clone, Copy)]
-pub enum Answer<K> {
-    // accepted
+pub enum Reply<K> {
     Done,
     // how many bytes were read or written
     Bytes(usize),
@@ -34,7 +35,7 @@ pub enum Answer<K> {
     Tells(bool),
     // the leading row, if there is one
     First(Option<Row<K>>),
-    Refused(Refusal),
-    // the refusal of a text, with the byte
-    RefusedAt(Refusal, usize),
 }
+
+// The reply, or the refusal; of a text with the byte.
+pub type Answer<K> = Result<Reply<K>, ReadFault>;

@@ -2,12 +2,11 @@
 #![tactic(auto)]
 
 mod call;
-mod domain;
-mod returned;
+mod division;
 mod several;
 mod single;
 
-pub use call::{Answer, Call};
-pub use domain::{DomainCall, perform_domain, run_domain};
+pub use call::{Answer, Call, Reply};
+pub use division::{Divides, Division, NoDivision};
 pub use several::run;
 pub use single::perform;

@@ -7,9 +7,9 @@ ghost use Rattle.words.specs.Laws.{word_ring, value_laws, figure_laws};
 ghost use Rattle.std.proofs.lemmas.Bool.{false≢true};
 
 use refusals::Refusal;
-use rings::Ring;
+use rings::{Ring, number_up_to};
 
-// Every content is a value.
+// Every content is a value. The machine's wrapping arithmetic is that of the ring: no remainder is taken, as in `residues`.
 #[derive(Clone, Copy, Debug)]
 pub struct Word {
     pub number: u32,
@@ -63,6 +63,7 @@ impl Ring for Word {
         }
     }
 
+    #[tactic(auto, using(rings::proofs::Remainders::products))]
     fn multiple(self, n: u16) -> Result<Word, Refusal> {
         Ok(Word {
             number: u32::from(n).wrapping_mul(self.number),
@@ -78,11 +79,7 @@ impl Ring for Word {
     }
 
     fn from_figures(first: i64, second: i64) -> Result<Word, Refusal> {
-        if second != 0 || first < 0 || first > 4_294_967_295 {
-            return Err(Refusal::Unfit);
-        }
-        Ok(Word {
-            number: first as u32,
-        })
+        let number = number_up_to(u32::MAX, first, second)?;
+        Ok(Word { number })
     }
 }

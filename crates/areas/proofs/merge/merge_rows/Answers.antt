@@ -1,52 +1,39 @@
-use Rattle.std.proofs.Common.{◌+◌, cond, ltb, set, Err, sym, ap, ◌∙◌}
+use Rattle.std.proofs.Common.{◌+◌, length, None, Err, sym, ap, ◌∙◌, refl, arith}
 use Rattle.std.proofs.lemmas.Result.{err_from_is_err_and}
-use Rattle.std.proofs.lemmas.Bool.{ltb-true, ltb-false}
-use Rattle.areas.specs.Merging.{giving, remaining, prepended, unread}
-use Rattle.areas.proofs.Merges.{merging_none, merging_spans, merging_refused, merging_some, merging_skip, merging_falls, merging_count, merging_over, merging_all}
-use Rattle.areas.proofs.Steps.{giving-none}
+use Rattle.std.proofs.lemmas.Bool.{ltb-false}
+use Rattle.areas.specs.Merging.{giving, unread}
+use Rattle.areas.proofs.Merges.{merging_none, merging_refused, merging_some, merging_skip, merging_count, merging_over, merging_all}
 use Rattle.areas.proofs.merge.merge_rows.Goals as goal
 
-pub loop-factor-init : goal.loop-factor-init
-loop-factor-init g c = merging_none (giving g.K.Ring.kind c.args.factor) c.args.rows.now c.args.left c.args.right c.args.at c.args.room c.requires
+pub loop-merge-init : goal.loop-merge-init
+loop-merge-init g c = merging_none g.K.Ring.kind (giving g.K.Ring.kind c.args.factor None c.args.left.now c.args.right.now) (length c.args.left.now + length c.args.right.now) c.args.out.now _ refl (omega arith)
 
-pub next_step-requires : goal.next_step-requires
-next_step-requires g c = record {
-  within = merging_spans (giving g.K.Ring.kind c.args.factor) c.args.rows.now c.args.left c.args.right c.args.at c.args.room c.requires c.loop-factor.rows c.loop-factor.merge c.loop-factor.count c.loop-factor.invariant;
-  some = ltb-true 0 (unread c.loop-factor.merge) (sym c.unfinished.ensures ∙ c.loop-factor-test.true);
-}
-
-pub returns-in_err-step : goal.returns-in_err-step
-returns-in_err-step g c =
+pub returns-in_err-row-clause-answer : goal.returns-in_err-row-clause-answer
+returns-in_err-row-clause-answer g c =
     let p = err_from_is_err_and c.from_residual.result c.from_residual.ensures.1 in
-    let q = merging_refused (giving g.K.Ring.kind c.args.factor) c.args.rows.now c.args.left c.args.right c.args.at c.args.room c.requires c.loop-factor.rows c.loop-factor.merge c.loop-factor.count c.loop-factor.invariant c.in_err-step.field-0.0 c.in_err-step.ensures.next in
-    record { answer = p.1 ∙ ap Err p.2 ∙ q.0; filled = q.1 }
+    let q = merging_refused g.K.Ring.kind (giving g.K.Ring.kind c.args.factor None c.args.left.now c.args.right.now) (length c.args.left.now + length c.args.right.now) c.args.out.now c.loop-merge.out c.loop-merge.merge c.loop-merge.count c.loop-merge.invariant c.in_err-row.field-0.0 c.in_err-row.ensures.next in
+    p.1 ∙ ap Err p.2 ∙ q.0
 
-pub loop-factor-preserved-in-Some : goal.loop-factor-preserved-in-Some
-loop-factor-preserved-in-Some g c =
-    merging_some (giving g.K.Ring.kind c.args.factor) c.args.rows.now c.args.left c.args.right c.args.at c.args.room c.requires c.loop-factor.rows c.loop-factor.merge c.loop-factor.count c.loop-factor.invariant c.in_ok-step.step.row c.in_ok-step.step.rest c.in_ok-step.ensures.goes c.in-Some.row c.in-Some.is
-    (c.in_ok-step.ensures.next ∙ ap (λ o. prepended o (remaining g.K.Ring.kind c.args.factor c.loop-factor.rows c.in_ok-step.step.rest)) c.in-Some.is)
-    c.put_row.new.rows (c.put_row.ensures ∙ ap (λ x. cond (ltb c.loop-factor.count c.args.room) (set c.loop-factor.rows (c.args.at + c.loop-factor.count) x) c.loop-factor.rows) c.in-Some.row-is)
-
-pub loop-factor-preserved : goal.loop-factor-preserved
-loop-factor-preserved g c =
-    merging_skip (giving g.K.Ring.kind c.args.factor) c.args.rows.now c.args.left c.args.right c.args.at c.args.room c.requires c.loop-factor.rows c.loop-factor.merge c.loop-factor.count c.loop-factor.invariant c.in_ok-step.step.row c.in_ok-step.step.rest c.in_ok-step.ensures.goes c.in_default.is
-    (c.in_ok-step.ensures.next ∙ ap (λ o. prepended o (remaining g.K.Ring.kind c.args.factor c.loop-factor.rows c.in_ok-step.step.rest)) c.in_default.is)
-
-pub loop-factor-smaller-in-Some : goal.loop-factor-smaller-in-Some
-loop-factor-smaller-in-Some g c = merging_falls (giving g.K.Ring.kind c.args.factor) c.args.rows.now c.args.left c.args.right c.args.at c.args.room c.requires c.loop-factor.rows c.loop-factor.merge c.loop-factor.count c.loop-factor.invariant c.in_ok-step.step.row c.in_ok-step.step.rest c.in_ok-step.ensures.goes
-
-pub loop-factor-smaller : goal.loop-factor-smaller
-loop-factor-smaller g c = merging_falls (giving g.K.Ring.kind c.args.factor) c.args.rows.now c.args.left c.args.right c.args.at c.args.room c.requires c.loop-factor.rows c.loop-factor.merge c.loop-factor.count c.loop-factor.invariant c.in_ok-step.step.row c.in_ok-step.step.rest c.in_ok-step.ensures.goes
+pub returns-in_err-row-clause-filled : goal.returns-in_err-row-clause-filled
+returns-in_err-row-clause-filled g c = (merging_refused g.K.Ring.kind (giving g.K.Ring.kind c.args.factor None c.args.left.now c.args.right.now) (length c.args.left.now + length c.args.right.now) c.args.out.now c.loop-merge.out c.loop-merge.merge c.loop-merge.count c.loop-merge.invariant c.in_err-row.field-0.0 c.in_err-row.ensures.next).1
 
 pub overflow_add-count : goal.overflow_add-count
-overflow_add-count g c = record { fits = merging_count (giving g.K.Ring.kind c.args.factor) c.args.rows.now c.args.left c.args.right c.args.at c.args.room c.requires c.loop-factor.rows c.loop-factor.merge c.loop-factor.count c.loop-factor.invariant c.in_ok-step.step.row c.in_ok-step.step.rest c.in_ok-step.ensures.goes c.in-Some.row c.in-Some.is }
+overflow_add-count g c = record { fits = merging_count g.K.Ring.kind (giving g.K.Ring.kind c.args.factor None c.args.left.now c.args.right.now) (length c.args.left.now + length c.args.right.now) c.args.out.now c.loop-merge.out c.loop-merge.merge c.loop-merge.count c.loop-merge.invariant c.in_ok-row.field-0 c.step.new.self c.in_ok-row.ensures.goes c.in_ok-row.ensures.next c.in-Some.row c.in-Some.is c.requires.small }
 
-pub returns-then-count-room : goal.returns-then-count-room
-returns-then-count-room g c =
-    let q = merging_over (giving g.K.Ring.kind c.args.factor) c.args.rows.now c.args.left c.args.right c.args.at c.args.room c.requires c.loop-factor.rows c.loop-factor.merge c.loop-factor.count c.loop-factor.invariant (giving-none g.K.Ring.kind c.args.factor) (ltb-false 0 (unread c.loop-factor.merge) (sym c.unfinished.ensures ∙ c.loop-factor-test.false)) c.if-count-room.true in
-    record { answer = q.0; filled = q.1 }
+pub loop-merge-preserved-in-Some : goal.loop-merge-preserved-in-Some
+loop-merge-preserved-in-Some g c = merging_some g.K.Ring.kind (giving g.K.Ring.kind c.args.factor None c.args.left.now c.args.right.now) (length c.args.left.now + length c.args.right.now) c.args.out.now c.loop-merge.out c.loop-merge.merge c.loop-merge.count c.loop-merge.invariant c.in_ok-row.field-0 c.step.new.self c.in_ok-row.ensures.goes c.in_ok-row.ensures.next c.in-Some.row c.in-Some.is c.put_row.new.out c.put_row.ensures
 
-pub returns : goal.returns
-returns g c =
-    let q = merging_all (giving g.K.Ring.kind c.args.factor) c.args.rows.now c.args.left c.args.right c.args.at c.args.room c.requires c.loop-factor.rows c.loop-factor.merge c.loop-factor.count c.loop-factor.invariant (giving-none g.K.Ring.kind c.args.factor) (ltb-false 0 (unread c.loop-factor.merge) (sym c.unfinished.ensures ∙ c.loop-factor-test.false)) c.if-count-room.false in
-    record { answer = q.0; filled = q.1 }
+pub loop-merge-preserved : goal.loop-merge-preserved
+loop-merge-preserved g c = merging_skip g.K.Ring.kind (giving g.K.Ring.kind c.args.factor None c.args.left.now c.args.right.now) (length c.args.left.now + length c.args.right.now) c.args.out.now c.loop-merge.out c.loop-merge.merge c.loop-merge.count c.loop-merge.invariant c.in_ok-row.field-0 c.step.new.self c.in_ok-row.ensures.goes c.in_ok-row.ensures.next c.in_default.is
+
+pub returns-then-count-out-clause-answer : goal.returns-then-count-out-clause-answer
+returns-then-count-out-clause-answer g c = (merging_over g.K.Ring.kind (giving g.K.Ring.kind c.args.factor None c.args.left.now c.args.right.now) (length c.args.left.now + length c.args.right.now) c.args.out.now c.loop-merge.out c.loop-merge.merge c.loop-merge.count c.loop-merge.invariant (ltb-false 0 (unread c.loop-merge.merge) (sym c.is_unfinished.ensures ∙ c.loop-merge-test.false)) c.if-count-out.true).0
+
+pub returns-then-count-out-clause-filled : goal.returns-then-count-out-clause-filled
+returns-then-count-out-clause-filled g c = (merging_over g.K.Ring.kind (giving g.K.Ring.kind c.args.factor None c.args.left.now c.args.right.now) (length c.args.left.now + length c.args.right.now) c.args.out.now c.loop-merge.out c.loop-merge.merge c.loop-merge.count c.loop-merge.invariant (ltb-false 0 (unread c.loop-merge.merge) (sym c.is_unfinished.ensures ∙ c.loop-merge-test.false)) c.if-count-out.true).1
+
+pub returns-clause-answer : goal.returns-clause-answer
+returns-clause-answer g c = (merging_all g.K.Ring.kind (giving g.K.Ring.kind c.args.factor None c.args.left.now c.args.right.now) (length c.args.left.now + length c.args.right.now) c.args.out.now c.loop-merge.out c.loop-merge.merge c.loop-merge.count c.loop-merge.invariant (ltb-false 0 (unread c.loop-merge.merge) (sym c.is_unfinished.ensures ∙ c.loop-merge-test.false)) c.if-count-out.false).0
+
+pub returns-clause-filled : goal.returns-clause-filled
+returns-clause-filled g c = (merging_all g.K.Ring.kind (giving g.K.Ring.kind c.args.factor None c.args.left.now c.args.right.now) (length c.args.left.now + length c.args.right.now) c.args.out.now c.loop-merge.out c.loop-merge.merge c.loop-merge.count c.loop-merge.invariant (ltb-false 0 (unread c.loop-merge.merge) (sym c.is_unfinished.ensures ∙ c.loop-merge-test.false)) c.if-count-out.false).1

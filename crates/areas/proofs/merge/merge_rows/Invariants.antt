@@ -1,9 +1,10 @@
-use Rattle.areas.specs.Merging.{giving}
-use Rattle.areas.proofs.Merges.{Merging, work}
+use Rattle.std.proofs.Common.{◌+◌, length, None}
+use Rattle.areas.specs.Merging.{giving, unread}
+use Rattle.areas.proofs.Merges.{Merging}
 use Rattle.areas.proofs.merge.merge_rows.Given as goal
 
-abbrev pub invariant-loop-factor : goal.invariant-loop-factor
-invariant-loop-factor g l = Merging (giving g.K.Ring.kind l.factor) l.initial.rows l.initial.merge.left l.initial.merge.right l.at l.room l.rows l.merge l.count
+abbrev pub invariant-loop-merge : goal.invariant-loop-merge
+invariant-loop-merge g l = Merging g.K.Ring.kind (giving g.K.Ring.kind l.fn.factor None l.fn.left l.fn.right) (length l.fn.left + length l.fn.right) l.fn.out l.out l.merge l.count
 
-abbrev pub decreases-loop-factor : goal.decreases-loop-factor
-decreases-loop-factor g l = work l.merge
+abbrev pub decreases-loop-merge : goal.decreases-loop-merge
+decreases-loop-merge g l = unread l.merge + length l.merge.right.now

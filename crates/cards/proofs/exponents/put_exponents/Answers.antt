@@ -1,21 +1,15 @@
-use Rattle.std.proofs.Common.{get_or, take, sym, subst}
-use Rattle.std.proofs.lemmas.List.{take_all}
-use Rattle.cards.specs.Bytes.{Wrote}
-use Rattle.cards.specs.Decks.{exponents, item}
-use Rattle.cards.proofs.Texts.{wrote_none, wrote_next, fits-back, exponents-push, exponents-room}
+use Rattle.std.proofs.Common.{sym, subst}
+use Rattle.std.proofs.lemmas.List.{at_drop_all}
+use Rattle.cards.proofs.Texts.{later, exponents-later, later-more}
 use Rattle.cards.proofs.exponents.put_exponents.Goals as goal
 
-pub loop-i-init : goal.loop-i-init
-loop-i-init c = wrote_none c.args.output.now c.args.at
+pub loop-exponent-init : goal.loop-exponent-init
+loop-exponent-init g c = λ end p. subst (λ l. g.S.Sink.puts c.args.sink.now l end) (sym (exponents-later c.args.list.now c.in-len1-up.len_at_least)) (g.met.S.Sink.laws.joined _ _ _ _ _ c.put_number.ensures p)
 
-pub put_item-end-requires : goal.put_item-end-requires
-put_item-end-requires c =
-    fits-back c.args.output.now c.args.at (exponents (take c.loop-i.i c.args.list.now)) (item c.loop-i.i (get_or c.args.list.now c.loop-i.i 0)) (exponents-room c.args.output.now c.args.at c.args.list.now c.loop-i.i c.loop-i-test.true c.requires) c.loop-i.output c.loop-i.end c.loop-i.invariant
-
-pub loop-i-preserved : goal.loop-i-preserved
-loop-i-preserved c =
-    subst (λ l. Wrote c.args.output.now c.args.at l c.put_item-end.new.output c.put_item-end.result) (sym (exponents-push c.args.list.now c.loop-i.i c.loop-i-test.true))
-    (wrote_next c.args.output.now c.args.at (exponents (take c.loop-i.i c.args.list.now)) (item c.loop-i.i (get_or c.args.list.now c.loop-i.i 0)) (exponents-room c.args.output.now c.args.at c.args.list.now c.loop-i.i c.loop-i-test.true c.requires) c.loop-i.output c.loop-i.end c.loop-i.invariant c.put_item-end.new.output c.put_item-end.result c.put_item-end.ensures)
+pub loop-exponent-preserved : goal.loop-exponent-preserved
+loop-exponent-preserved g c = λ end p.
+    let joined = g.met.S.Sink.laws.joined in
+    c.loop-exponent.invariant end (subst (λ l. g.S.Sink.puts c.loop-exponent.sink l end) (sym (later-more _ c.loop-exponent.exponent-index c.loop-exponent-test.true)) (joined _ _ _ _ _ c.put.ensures (joined _ _ _ _ _ c.put_number-in-loop-exponent.ensures p)))
 
 pub returns : goal.returns
-returns c = subst (λ l. Wrote c.args.output.now c.args.at (exponents l) c.loop-i.output c.loop-i.end) (take_all c.loop-i.i c.args.list.now c.loop-i-test.false) c.loop-i.invariant
+returns g c = c.loop-exponent.invariant c.loop-exponent.sink (subst (λ l. g.S.Sink.puts c.loop-exponent.sink l c.loop-exponent.sink) (sym (at_drop_all later _ c.loop-exponent.exponent-index c.loop-exponent-test.false)) (g.met.S.Sink.laws.none _))

@@ -1,7 +1,8 @@
-use Rattle.std.proofs.Common.{take}
-use Rattle.cards.specs.Bytes.{Wrote}
-use Rattle.cards.specs.Decks.{exponents}
+use Rattle.std.proofs.Common.{drop}
+use Rattle.texts.specs.Decks.{exponents}
+use Rattle.cards.proofs.Texts.{later}
 use Rattle.cards.proofs.exponents.put_exponents.Given as goal
 
-abbrev pub invariant-loop-i : goal.invariant-loop-i
-invariant-loop-i l = Wrote l.initial.output l.at (exponents (take l.i l.list)) l.output l.end
+-- what is put after the later exponents makes, with what was put, all
+abbrev pub invariant-loop-exponent : goal.invariant-loop-exponent
+invariant-loop-exponent g l = (end : g.row.S.Denot) → g.S.Sink.puts l.sink (later (drop l.exponent-index l.rest)) end → g.S.Sink.puts l.fn.sink (exponents l.fn.list) end

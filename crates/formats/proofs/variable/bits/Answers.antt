@@ -1,12 +1,9 @@
-use Rattle.std.proofs.Common.{arith}
-use Rattle.formats.proofs.Walks.{total-step, total_all}
+use Rattle.std.proofs.Common.{rules}
+use Rattle.formats.proofs.Walks.{total_is_sum}
 use Rattle.formats.proofs.variable.bits.Goals as goal
 
-pub overflow_add-sum : goal.overflow_add-sum
-overflow_add-sum c = omega (arith, total-step c.args.variables.now c.loop-v.v-index c.loop-v-test.true)
-
-pub loop-v-preserved : goal.loop-v-preserved
-loop-v-preserved c = omega (arith, total-step c.args.variables.now c.loop-v.v-index c.loop-v-test.true)
+pub sum-requires-clause-fits : goal.sum-requires-clause-fits
+sum-requires-clause-fits c = search (rules, total_is_sum)
 
 pub returns : goal.returns
-returns c = omega (arith, total_all c.args.variables.now c.loop-v.v-index c.loop-v-test.false)
+returns c = search (rules, total_is_sum)

@@ -1,23 +1,17 @@
-use Rattle.std.proofs.Common.{◌<◌, length, sym, ◌∙◌, arith}
-use Rattle.sheets.proofs.Comparing.{unequal_lengths, other_key, other-coefficient, same_row, same_all}
+use Rattle.std.proofs.Common.{rules, tests, ◌≡◌, sym, ap, ◌∙◌}
+use Rattle.std.specs.List.{list_all, zip}
+use Rattle.std.proofs.lemmas.Bool.{ne_eqb}
+use Rattle.std.proofs.lemmas.Iterator.{YieldsList-from_zip, YieldsList-from_slice}
+use Rattle.std.proofs.lemmas.Iterator.Search.{all_from_yields_List}
+use Rattle.sheets.proofs.Comparing.{same_pair, unequal_lengths, same_pairs}
 use Rattle.sheets.proofs.equal.same_rows.Goals as goal
-use Rattle.sheets.proofs.equal.same_rows.Goals.{then-a-b-via-then-a-b, then-a-b-via-else-a-b+then-not-equals}
 
 pub returns-then-left-right : goal.returns-then-left-right
-returns-then-left-right g c = sym (unequal_lengths g.K.Ring.kind c.args.left.now c.args.right.now c.if-left-right.true)
-
-pub returns-then-a-b : goal.returns-then-a-b
-returns-then-a-b g c =
+returns-then-left-right g c =
     let K = g.K.Ring.kind in
-    let h : c.loop-i.i < length c.args.right.now = omega arith in
-    elim c.then-a-b.branch [
-      | then-a-b-via-then-a-b w ↦ sym (other_key K c.args.left.now c.args.right.now c.loop-i.i c.loop-i-test.true h c.index-left-i.result c.index-right-i.result c.index-left-i.is c.index-right-i.is w.if-a-b.true) ∙ c.loop-i.invariant
-      | then-a-b-via-else-a-b+then-not-equals w ↦ sym (other-coefficient K c.args.left.now c.args.right.now c.loop-i.i c.loop-i-test.true h c.index-left-i.result c.index-right-i.result c.index-left-i.is c.index-right-i.is w.if-a-b.false (sym w.equals.ensures ∙ w.if-not-equals.true)) ∙ c.loop-i.invariant
-    ]
+    let pairs = YieldsList-from_zip (YieldsList-from_slice c.args.left.now (ap (λ s. s.rest.now) c.zip.ensures.first ∙ c.iter.ensures.rest)) (YieldsList-from_slice c.args.right.now c.zip.ensures.second.0) in
+    let all : c.all.result ≡ list_all (same_pair K) (zip c.args.left.now c.args.right.now) = all_from_yields_List (same_pair K) c.all.new.self _ c.all.result c.all.ensures.ran pairs (λ x b q k. search (rules, tests)) in
+    all ∙ same_pairs K c.args.left.now c.args.right.now c.if-left-right.true
 
-pub loop-i-preserved : goal.loop-i-preserved
-loop-i-preserved g c =
-    sym (same_row g.K.Ring.kind c.args.left.now c.args.right.now c.loop-i.i c.loop-i-test.true (omega arith) c.index-left-i.result c.index-right-i.result c.index-left-i.is c.index-right-i.is c.if-a-b.false (sym c.equals.ensures ∙ c.if-not-equals.false)) ∙ c.loop-i.invariant
-
-pub returns : goal.returns
-returns g c = sym (same_all g.K.Ring.kind c.args.left.now c.args.right.now c.loop-i.i (omega arith) (omega arith)) ∙ c.loop-i.invariant
+pub returns-else-left-right : goal.returns-else-left-right
+returns-else-left-right g c = ne_eqb _ _ c.if-left-right.false ∙ sym (unequal_lengths g.K.Ring.kind c.args.left.now c.args.right.now c.if-left-right.false)

@@ -1,9 +1,8 @@
 use Rattle.std.proofs.Common.{length}
-use Rattle.arithmetic.specs.Dividing.{Over}
-use Rattle.sheets.specs.Sheets.{state, Blank}
-use Rattle.uses.specs.Performing.{plain_call_of}
+use Rattle.sheets.specs.Sheets.{state}
+use Rattle.uses.specs.Performing.{call_of}
 use Rattle.uses.proofs.Lists.{Turn}
 use Rattle.uses.proofs.several.run.Given as goal
 
 abbrev pub invariant-loop-i : goal.invariant-loop-i
-invariant-loop-i g l = ((over : Over _) → Turn g.K.Ring.kind over (plain_call_of (length l.initial.output)) (state l.initial.sheet) l.calls l.initial.output l.initial.answers l.i (state l.sheet) l.answers l.output) × (Blank g.K.Ring.kind l.initial.sheet → Blank g.K.Ring.kind l.sheet)
+invariant-loop-i g l = Turn g.K.Ring.kind (call_of g.D.Divides.division_of (length l.initial.output)) (state l.initial.sheet) l.call-items l.initial.output g.D.Divides.divides_by l.initial.answers l.i (state l.sheet) l.answers l.output

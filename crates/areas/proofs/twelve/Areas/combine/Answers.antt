@@ -1,49 +1,50 @@
-use Rattle.std.proofs.Common.{◌≡◌, ◌*◌, ◌≤◌, length, None, Err, sym, ap, ◌∙◌, subst, arith, rules}
+use Rattle.std.proofs.Common.{◌≡◌, ◌+◌, ◌-◌, ◌*◌, cond, length, is_ok, None, Err, sym, ap, ◌∙◌, arith, rules}
 use Rattle.std.proofs.lemmas.Bool.{cond-true, cond-false}
 use Rattle.refusals.specs.declared.Refusal.TheVariants.{Place}
 use Rattle.rows.specs.Tables.{limited}
 use Rattle.rows.proofs.Sums.{limited-few}
-use Rattle.areas.specs.Areas.{contents, storing, answered, rows_of, apart}
+use Rattle.areas.specs.Areas.{contents, lent_room, storing, answered, rows_of, apart}
 use Rattle.areas.specs.Merging.{spanned, giving, combined}
-use Rattle.areas.proofs.Shares.{area_end}
-use Rattle.areas.proofs.Ends.{apart_parts, mergeable, merged_tables, end_ok, end_err}
+use Rattle.areas.proofs.Ends.{apart_parts, span_beside, spanned-table, merged, answer-of}
 use Rattle.areas.proofs.twelve.Areas.combine.Goals as goal
+use Rattle.areas.proofs.twelve.Areas.combine.Goals.{then-is_ok, else-is_ok}
 
-pub merge_rows-requires : goal.merge_rows-requires
-merge_rows-requires g c =
+pub merge_spans-merged-requires-clause-left : goal.merge_spans-merged-requires-clause-left
+merge_spans-merged-requires-clause-left g c =
     let s = c.args.self.now in
     let twelve : length s.counts ≡ 12 = search rules in
     let p = apart_parts c.args.to c.args.left c.args.right (sym c.apart.ensures ∙ c.if-not-apart.false) in
-    mergeable g.K.Ring.kind s.rows.now s.counts twelve c.args.to c.args.left c.args.right c.room-room.result c.span-l.result c.span-r.result p.0 p.1 p.2 p.3 p.4 c.room-room.ensures c.span-l.ensures c.span-r.ensures
+    span_beside g.K.Ring.kind s.rows.now s.counts twelve c.args.left c.span-first.result c.span-first.ensures p.1 c.args.to p.3 _ (ap (λ n. c.args.to * n) c.room-room.ensures) (omega arith)
 
-pub blank_rows-requires : goal.blank_rows-requires
-blank_rows-requires g c =
+pub merge_spans-merged-requires-clause-right : goal.merge_spans-merged-requires-clause-right
+merge_spans-merged-requires-clause-right g c =
+    let s = c.args.self.now in
+    let twelve : length s.counts ≡ 12 = search rules in
     let p = apart_parts c.args.to c.args.left c.args.right (sym c.apart.ensures ∙ c.if-not-apart.false) in
-    let a = area_end c.args.to (length c.args.self.now.rows.now) p.0 in
-    let m = ap (λ n. c.args.to * n) c.room-room.ensures in
-    omega arith
+    span_beside g.K.Ring.kind s.rows.now s.counts twelve c.args.right c.span-second.result c.span-second.ensures p.2 c.args.to p.4 _ (ap (λ n. c.args.to * n) c.room-room.ensures) (omega arith)
 
-pub returns-in-Ok : goal.returns-in-Ok
-returns-in-Ok g c =
+pub returns : goal.returns
+returns g c =
     let s = c.args.self.now in
     let K = g.K.Ring.kind in
+    let rows = s.rows.now in
     let twelve : length s.counts ≡ 12 = search rules in
     let t = sym c.apart.ensures ∙ c.if-not-apart.false in
+    let p = apart_parts c.args.to c.args.left c.args.right t in
     let m = c.room-room.result in
-    let is = merged_tables K s.rows.now s.counts twelve (giving K c.args.factor None) c.args.left c.args.right m c.span-l.result c.span-r.result c.room-room.ensures c.span-l.ensures c.span-r.ensures ∙ sym (cond-true (apart c.args.to c.args.left c.args.right) _ (Err Place) t) in
-    let p = end_ok K s.rows.now s.counts twelve c.args.to (apart_parts c.args.to c.args.left c.args.right t).0 m c.room-room.ensures c.merge_rows.new.rows c.settle.new.self.rows.now (limited m (giving K c.args.factor None (spanned s.rows.now c.span-l.result) (spanned s.rows.now c.span-r.result))) c.settle.new.self.counts c.in-Ok.count (λ xs e. subst (λ n. length xs ≤ n) c.room-room.ensures (limited-few m _ xs e)) c.in-Ok.ensures.answer c.in-Ok.ensures.filled c.settle.ensures.rows c.settle.ensures.counts in
-    record { answer = p.0 ∙ ap answered is; leaves = p.1.holds ∙ ap (λ r. storing (contents s) c.args.to (rows_of r)) is; tidy = p.1.tidy }
-
-pub returns-in-Err : goal.returns-in-Err
-returns-in-Err g c =
-    let s = c.args.self.now in
-    let K = g.K.Ring.kind in
-    let twelve : length s.counts ≡ 12 = search rules in
-    let t = sym c.apart.ensures ∙ c.if-not-apart.false in
-    let m = c.room-room.result in
-    let is = merged_tables K s.rows.now s.counts twelve (giving K c.args.factor None) c.args.left c.args.right m c.span-l.result c.span-r.result c.room-room.ensures c.span-l.ensures c.span-r.ensures ∙ sym (cond-true (apart c.args.to c.args.left c.args.right) _ (Err Place) t) in
-    let p = end_err K s.rows.now s.counts twelve c.args.to (apart_parts c.args.to c.args.left c.args.right t).0 m c.room-room.ensures c.merge_rows.new.rows c.blank_rows.new.rows (limited m (giving K c.args.factor None (spanned s.rows.now c.span-l.result) (spanned s.rows.now c.span-r.result))) c.in-Err.refusal c.in-Err.ensures.answer c.in-Err.ensures.filled c.blank_rows.ensures in
-    record { answer = p.0 ∙ ap answered is; leaves = p.1.holds ∙ ap (λ r. storing (contents s) c.args.to (rows_of r)) is; tidy = p.1.tidy }
+    let at = c.args.to * m in
+    let wide : at + m - at ≡ lent_room s = omega arith in
+    let left = spanned-table K rows s.counts twelve c.args.left c.span-first.result c.span-first.ensures in
+    let right = spanned-table K rows s.counts twelve c.args.right c.span-second.result c.span-second.ensures in
+    let r = limited (at + m - at) (giving K c.args.factor None (spanned rows c.span-first.result) (spanned rows c.span-second.result)) in
+    let is : r ≡ combined K (contents s) c.args.to c.args.left c.args.right c.args.factor = (λ i. limited (wide i) (giving K c.args.factor None (left i) (right i))) ∙ sym (cond-true (apart c.args.to c.args.left c.args.right) _ (Err Place) t) in
+    let used : c.if-is_ok.used ≡ cond (is_ok c.merge_spans-merged.result) c.count-old.result m = elim c.if-is_ok.branch [ then-is_ok w ↦ w.used-is ∙ sym (cond-true _ _ _ (sym c.is_ok.ensures.value ∙ w.if-is_ok.true)) | else-is_ok w ↦ w.used-is ∙ sym (cond-false _ _ _ (sym c.is_ok.ensures.value ∙ w.if-is_ok.false)) ] in
+    let q = merged K rows s.counts twelve c.args.to p.0 (record { start = at; end = at + m }) (ap (λ n. c.args.to * n) c.room-room.ensures) wide c.merge_spans-merged.new.rows c.settle.new.self.rows.now r c.merge_spans-merged.result c.unwrap_or.result c.if-is_ok.used c.settle.new.self.counts (λ xs e. limited-few (at + m - at) _ xs e) c.merge_spans-merged.ensures.answer c.merge_spans-merged.ensures.written c.unwrap_or.ensures (used ∙ (λ i. cond (is_ok c.merge_spans-merged.result) (c.count-old.ensures i) (c.room-room.ensures i))) c.settle.ensures.rows c.settle.ensures.counts in
+    record {
+      answer = answer-of _ r c.merge_spans-merged.result c.map.result c.merge_spans-merged.ensures.answer c.map.ensures.variant c.map.ensures.cases ∙ ap answered is;
+      leaves = q.holds ∙ ap (λ x. storing (contents s) c.args.to (rows_of x)) is;
+      tidy = q.tidy;
+    }
 
 pub returns-then-not-apart : goal.returns-then-not-apart
 returns-then-not-apart g c =

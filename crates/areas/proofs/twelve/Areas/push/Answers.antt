@@ -36,8 +36,8 @@ returns g c =
     let q = pushed_row K s.rows.now s.counts twelve c.args.area (omega arith) c.args.row c.room-room.result c.count-count.result c.room-room.ensures c.count-count.ensures c.if-count-room.false in
     record { answer = ap answered (sym p); leaves = q.holds ∙ ap (kept (contents s) c.args.area) (sym p); tidy = q.tidy }
 
-pub returns-then-area-gt11 : goal.returns-then-area-gt11
-returns-then-area-gt11 g c =
+pub returns-then-area-ge-AREAS : goal.returns-then-area-ge-AREAS
+returns-then-area-ge-AREAS g c =
     let s = contents c.args.self.now in
-    let none : Err Place ≡ pushed s c.args.area c.args.row = sym (cond-false (ltb c.args.area 12) _ _ (le-ltb c.args.area 12 c.if-area-gt11.true)) in
+    let none : Err Place ≡ pushed s c.args.area c.args.row = sym (cond-false (ltb c.args.area 12) _ _ (le-ltb c.args.area 12 c.if-area-ge-AREAS.true)) in
     record { answer = ap answered none; leaves = ap (kept s c.args.area) none; tidy = λ t. t }

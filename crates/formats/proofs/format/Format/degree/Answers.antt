@@ -1,15 +1,21 @@
-use Rattle.std.proofs.Common.{length, take, sym, ap, ◌∙◌, arith}
-use Rattle.std.proofs.lemmas.List.{take_all}
-use Rattle.formats.specs.Exponents.{degree}
-use Rattle.formats.specs.Keys.{unpack}
-use Rattle.formats.proofs.Turns.{length_unpack}
+use Rattle.std.proofs.Common.{◌<◌, ◌^◌, take, rules, ◌∙◌, subst, sym}
+use Rattle.std.proofs.lemmas.Iterator.{YieldsList-from_map, YieldsList-from_take}
+use Rattle.std.proofs.lemmas.Iterator.Consumers.{YieldsList-from_first, YieldsList-at, sum_by_from_yields_List, fits_by_from_yields_list}
+use Rattle.formats.specs.Drafts.{variables}
+use Rattle.formats.specs.Keys.{field, places}
+use Rattle.formats.proofs.Lists.{sum-degree, degree-fits}
 use Rattle.formats.proofs.format.Format.degree.Goals as goal
 
-pub returns-else-count-variables : goal.returns-else-count-variables
-returns-else-count-variables c =
-    let vs = c.variables-variables.result.now in
-    let u = unpack vs c.args.key in
-    let l = length_unpack vs c.args.key in
-    c.degree_of-else-count-variables.ensures
-    ∙ ap degree (take_all (length vs) u (omega arith) ∙ sym (take_all c.args.count u (omega (arith, c.if-count-variables.false))))
-    ∙ ap (λ l. degree (take c.args.count (unpack l c.args.key))) c.variables-variables.ensures.list
+pub sum-requires-clause-fits : goal.sum-requires-clause-fits
+sum-requires-clause-fits c =
+    let vs = variables c.args.self.now in
+    fits_by_from_yields_list (λ p. field p.0 p.1 c.args.key) (take c.args.count (places vs)) c.map.result _
+    (YieldsList-from_map _ (λ p. field p.0 p.1 c.args.key) (YieldsList-at c.map.ensures.source (YieldsList-from_take c.args.count (YieldsList-from_first (λ f. (f.shift, f.width)) (λ l. l) (places vs) cc) cc)) c.map.ensures.closure (λ x r q k. search rules))
+    (subst (λ n. n < 2 ^ 32) (sym (sum-degree vs c.args.key c.args.count)) (degree-fits c.args.self.now c.args.key c.args.count))
+
+pub returns : goal.returns
+returns c =
+    let vs = variables c.args.self.now in
+    sum_by_from_yields_List (λ p. field p.0 p.1 c.args.key) (take c.args.count (places vs)) c.map.result c.sum.result c.sum.ensures.ran
+    (YieldsList-from_map _ (λ p. field p.0 p.1 c.args.key) (YieldsList-at c.map.ensures.source (YieldsList-from_take c.args.count (YieldsList-from_first (λ f. (f.shift, f.width)) (λ l. l) (places vs) cc) cc)) c.map.ensures.closure (λ x r q k. search rules))
+    ∙ sum-degree vs c.args.key c.args.count

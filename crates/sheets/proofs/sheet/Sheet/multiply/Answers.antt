@@ -1,28 +1,35 @@
-use Rattle.std.proofs.Common.{◌≡◌, sym, subst, arith}
+use Rattle.std.proofs.Common.{◌≡◌, subst, arith}
 use Rattle.arithmetic.specs.Multiplying.{product}
-use Rattle.sheets.specs.Sheets.{state}
+use Rattle.sheets.specs.Desks.{state}
 use Rattle.sheets.specs.Ends.{Making}
 use Rattle.sheets.specs.Working.{table}
-use Rattle.sheets.proofs.Outcomes.{three_placed, place-table, ends, tested, outcome, theory}
+use Rattle.sheets.proofs.Outcomes.{three_placed, place-found, named, ends, tested, outcome, theory}
+use Rattle.sheets.proofs.LentRows.{left_lent}
 use Rattle.sheets.proofs.sheet.Sheet.multiply.Goals as goal
 
 pub returns : goal.returns
 returns g c =
     let K = g.K.Ring.kind in
-    let s = c.args.self.now in
+    let s = c.args.self.now.desk in
     let r = c.args.res in
     let p = c.args.left in
     let q = c.args.right in
+    let er = c.in_ok-res.ensures in
+    let ep = c.in_ok-left.ensures in
+    let eq = c.in_ok-right.ensures in
     let t = c.product_in-made.new.self in
     let u = c.finish.new.self in
     let a = product K (state s).vars (state s).room ((state s).places p) ((state s).places q) in
-    let same : product K (state s).vars (state s).room (table s p) (table s q) ≡ a =
-    (λ i. product K (state s).vars (state s).room (sym (place-table s p (omega arith)) i) (sym (place-table s q (omega arith)) i)) in
-    let e = ends K s 10 (omega arith) t u r a c.product_in-made.result c.finish.result (subst (λ x. Making K 10 s t x c.product_in-made.result) same c.product_in-made.ensures) c.finish.ensures.answer c.finish.ensures.leaves c.finish.ensures.blank in
-    let w = tested K s u r a c.finish.result _ (three_placed r p q (omega arith) (omega arith) (omega arith)) e in
+    let same : product K (state s).vars (state s).room (table s c.in_ok-left.left.area) (table s c.in_ok-right.right.area) ≡ a =
+    (λ i. product K (state s).vars (state s).room (place-found s c.in_ok-left.left.area p ep i) (place-found s c.in_ok-right.right.area q eq i)) in
+    let e = named K s u c.in_ok-res.res.area r a c.finish.result er (ends K s 10 (omega arith) t u c.in_ok-res.res.area a c.product_in-made.result c.finish.result (subst (λ x. Making K 10 s t x c.product_in-made.result) same c.product_in-made.ensures) c.finish.ensures.answer c.finish.ensures.leaves c.finish.ensures.blank) in
+    let w = tested K s u r a c.finish.result _ (three_placed r p q er.1 ep.1 eq.1) e in
     record {
       answer = w.answers;
       leaves = w.leaves;
-      blank = w.blank;
+      lent = left_lent K s u r _ _ w c.args.self.now.at_rest (λ _ _. er.1);
       algebra = λ f h _ hp hq. outcome K (state s) (state u) f r _ _ a c.finish.result e.answers e.leaves h ((theory K g.met.K.Ring.ring g.met.K.Ring.values s).products (f p) (f q) ((state s).places p) ((state s).places q) (h p hp) (h q hq));
     }
+
+pub invariant_of-self : goal.invariant_of-self
+invariant_of-self g c = record { at_rest = c.finish.ensures.blank (c.product_in-made.ensures.tidy c.args.self.now.at_rest.tidy) }

@@ -2,12 +2,19 @@ use Rattle.std.proofs.Common.{length, ap}
 use Rattle.formats.specs.Drafts.{variables}
 use Rattle.areas.specs.Areas.{contents}
 use Rattle.sheets.proofs.States.{seen-fresh}
+use Rattle.sheets.specs.declared.desk.Desk.{Desk}
+use Rattle.sheets.proofs.LentRows.{lent_opened}
 use Rattle.sheets.proofs.sheet.Sheet.open.Goals as goal
+
+pub invariant_of-result : goal.invariant_of-result
+invariant_of-result g c = record { at_rest = record { tidy = c.open-areas.ensures.tidy; working = λ a low high. ap (λ d. d.tables a) c.open-areas.ensures.holds } }
 
 pub returns : goal.returns
 returns g c =
     let is = c.open-areas.ensures.holds in
+    let d : Desk _ = record { areas = c.open-areas.result; format = c.args.format } in
+    let e = seen-fresh (contents c.open-areas.result) (length c.args.rows.now) (variables c.args.format) is in
     record {
-      state = seen-fresh (contents c.open-areas.result) (length c.args.rows.now) (variables c.args.format) is;
-      blank = record { tidy = c.open-areas.ensures.tidy; working = λ a low high. ap (λ d. d.tables a) is };
+      state = e;
+      lent = lent_opened g.K.Ring.kind d (record { tidy = c.open-areas.ensures.tidy; working = λ a low high. ap (λ d. d.tables a) is }) (length c.args.rows.now) (ap (λ d. d.lent) is) e;
     }

@@ -1,32 +1,48 @@
-use Rattle.std.proofs.Common.{◌≡◌, [], length, sym, subst, arith}
-use Rattle.std.proofs.lemmas.Bool.{lt-ltb}
+use Rattle.std.proofs.Common.{◌≡◌, [], length, ◌∙◌, subst, arith}
+use Rattle.std.proofs.lemmas.Bool.{lt-ltb, le-ltb, cond-true, cond-false}
+use Rattle.sheets.specs.Lent.{lent_of}
 use Rattle.refusals.specs.declared.Refusal.TheVariants.{Variable as NotInFormat}
 use Rattle.arithmetic.specs.Substituting.{substituted}
-use Rattle.sheets.specs.Sheets.{state}
+use Rattle.sheets.specs.Desks.{state}
 use Rattle.sheets.specs.Ends.{Making}
 use Rattle.sheets.specs.Working.{table}
-use Rattle.sheets.proofs.Outcomes.{three_placed, place-table, ends, tested, passing, outcome, theory}
+use Rattle.sheets.proofs.Outcomes.{three_placed, place-found, named, ends, tested, passing, outcome, theory}
+use Rattle.sheets.proofs.LentRows.{left_lent, refused_lent}
 use Rattle.sheets.proofs.sheet.Sheet.substitute.Goals as goal
 
 pub returns : goal.returns
 returns g c =
     let K = g.K.Ring.kind in
-    let s = c.args.self.now in
+    let s = c.args.self.now.desk in
     let r = c.args.res in
     let p = c.args.left in
     let q = c.args.right in
+    let er = c.in_ok-res.ensures in
+    let ep = c.in_ok-left.ensures in
+    let eq = c.in_ok-right.ensures in
     let v = c.args.variable in
     let t = c.substitution_in-made.new.self in
     let u = c.finish.new.self in
     let a = substituted K (state s).vars (state s).room v ((state s).places q) [] ((state s).places p) in
-    let same : substituted K (state s).vars (state s).room v (table s q) [] (table s p) ≡ a =
-    (λ i. substituted K (state s).vars (state s).room v (sym (place-table s q (omega arith)) i) [] (sym (place-table s p (omega arith)) i)) in
-    let e = ends K s 8 (omega arith) t u r a c.substitution_in-made.result c.finish.result (subst (λ x. Making K 8 s t x c.substitution_in-made.result) same c.substitution_in-made.ensures) c.finish.ensures.answer c.finish.ensures.leaves c.finish.ensures.blank in
+    let same : substituted K (state s).vars (state s).room v (table s c.in_ok-right.right.area) [] (table s c.in_ok-left.left.area) ≡ a =
+    (λ i. substituted K (state s).vars (state s).room v (place-found s c.in_ok-right.right.area q eq i) [] (place-found s c.in_ok-left.left.area p ep i)) in
+    let e = named K s u c.in_ok-res.res.area r a c.finish.result er (ends K s 8 (omega arith) t u c.in_ok-res.res.area a c.substitution_in-made.result c.finish.result (subst (λ x. Making K 8 s t x c.substitution_in-made.result) same c.substitution_in-made.ensures) c.finish.ensures.answer c.finish.ensures.leaves c.finish.ensures.blank) in
     let there = passing K s u r a c.finish.result NotInFormat _ (lt-ltb v (length (state s).vars) (omega (arith, c.count.ensures))) e in
-    let w = tested K s u r _ c.finish.result _ (three_placed r p q (omega arith) (omega arith) (omega arith)) there in
+    let w = tested K s u r _ c.finish.result _ (three_placed r p q er.1 ep.1 eq.1) there in
     record {
       answer = w.answers;
       leaves = w.leaves;
-      blank = w.blank;
+      lent = left_lent K s u r _ _ w c.args.self.now.at_rest (λ _ _. er.1);
       algebra = λ B hv f h bounded _ hp hq. outcome K (state s) (state u) f r _ _ a c.finish.result e.answers e.leaves h ((theory K g.met.K.Ring.ring g.met.K.Ring.values s).substitutions v B (f p) (f q) ((state s).places p) ((state s).places q) hv bounded (h p hp) (h q hq));
     }
+
+pub invariant_of-self : goal.invariant_of-self
+invariant_of-self g c = record { at_rest = c.finish.ensures.blank (c.substitution_in-made.ensures.tidy c.args.self.now.at_rest.tidy) }
+
+pub returns-then-variable-count-clause-lent : goal.returns-then-variable-count-clause-lent
+returns-then-variable-count-clause-lent g c =
+    let s = c.args.self.now.desk in
+    let er = c.in_ok-res.ensures in
+    let ep = c.in_ok-left.ensures in
+    let eq = c.in_ok-right.ensures in
+    refused_lent g.K.Ring.kind (lent_of s) c.args.res _ NotInFormat (cond-true _ _ _ (three_placed c.args.res c.args.left c.args.right er.1 ep.1 eq.1) ∙ cond-false _ _ _ (le-ltb c.args.variable (length (state s).vars) (omega (arith, c.count.ensures, c.if-variable-count.true))))

@@ -1,35 +1,42 @@
-use Rattle.std.proofs.Common.{◌≡◌, sym, refl, ◌∙◌, subst, arith}
+use Rattle.std.proofs.Common.{◌≡◌, refl, ◌∙◌, subst, arith}
 use Rattle.std.proofs.lemmas.Bool.{cond-true}
 use Rattle.rows.specs.Products.{joined}
 use Rattle.rows.specs.Tables.{limited}
 use Rattle.arithmetic.specs.Negating.{subtracted}
 use Rattle.areas.specs.Areas.{contents, scaling}
-use Rattle.sheets.specs.Sheets.{state}
+use Rattle.sheets.specs.Desks.{state}
 use Rattle.sheets.specs.Calls.{limit}
 use Rattle.sheets.specs.Ends.{Making}
 use Rattle.sheets.proofs.States.{with_areas, passed}
-use Rattle.sheets.proofs.Outcomes.{three_placed, apart_areas, place-table, ends, tested, outcome, theory}
+use Rattle.sheets.proofs.Outcomes.{three_placed, apart_areas, place-found, named, ends, tested, outcome, theory}
+use Rattle.sheets.proofs.LentRows.{left_lent}
 use Rattle.sheets.proofs.sheet.Sheet.subtract.Goals as goal
 
 pub returns : goal.returns
 returns g c =
     let K = g.K.Ring.kind in
-    let s = c.args.self.now in
+    let s = c.args.self.now.desk in
     let r = c.args.res in
     let p = c.args.left in
     let q = c.args.right in
-    let t = with_areas s c.add_scaled.new.self in
+    let er = c.in_ok-res.ensures in
+    let ep = c.in_ok-left.ensures in
+    let eq = c.in_ok-right.ensures in
+    let t = with_areas s c.add_scaled-answer.new.self in
     let u = c.finish.new.self in
-    let made = c.made_in-made.result in
+    let made = c.made_in.result in
     let a = limit (state s) (subtracted K ((state s).places p) ((state s).places q)) in
-    let b = scaling K (contents s.areas) 8 p q c.minus_one.result in
-    let same : b ≡ a = cond-true _ _ _ (apart_areas 8 p q (omega arith) (omega arith) (omega arith) (λ x. omega arith) (λ x. omega arith)) ∙ (λ i. limited (state s).room (joined K (sym (place-table s p (omega arith)) i) (c.minus_one.ensures i) (sym (place-table s q (omega arith)) i))) in
-    let m = passed K 8 8 s t b c.add_scaled.result made (omega arith) (omega arith) c.add_scaled.ensures.leaves refl c.add_scaled.ensures.tidy c.add_scaled.ensures.answer c.made_in-made.ensures in
-    let e = ends K s 8 (omega arith) t u r a made c.finish.result (subst (λ x. Making K 8 s t x made) same m) c.finish.ensures.answer c.finish.ensures.leaves c.finish.ensures.blank in
-    let w = tested K s u r a c.finish.result _ (three_placed r p q (omega arith) (omega arith) (omega arith)) e in
+    let b = scaling K (contents s.areas) 8 c.in_ok-left.left.area c.in_ok-right.right.area c.minus_one.result in
+    let same : b ≡ a = cond-true _ _ _ (apart_areas 8 c.in_ok-left.left.area c.in_ok-right.right.area (omega arith) (omega arith) (omega arith) (λ x. omega arith) (λ x. omega arith)) ∙ (λ i. limited (state s).room (joined K (place-found s c.in_ok-left.left.area p ep i) (c.minus_one.ensures i) (place-found s c.in_ok-right.right.area q eq i))) in
+    let m = passed K 8 8 s t b c.add_scaled-answer.result made (omega arith) (omega arith) c.add_scaled-answer.ensures.leaves refl c.add_scaled-answer.ensures.tidy c.add_scaled-answer.ensures.answer c.made_in.ensures in
+    let e = named K s u c.in_ok-res.res.area r a c.finish.result er (ends K s 8 (omega arith) t u c.in_ok-res.res.area a made c.finish.result (subst (λ x. Making K 8 s t x made) same m) c.finish.ensures.answer c.finish.ensures.leaves c.finish.ensures.blank) in
+    let w = tested K s u r a c.finish.result _ (three_placed r p q er.1 ep.1 eq.1) e in
     record {
       answer = w.answers;
       leaves = w.leaves;
-      blank = w.blank;
+      lent = left_lent K s u r _ _ w c.args.self.now.at_rest (λ _ _. er.1);
       algebra = λ f h _ hp hq. outcome K (state s) (state u) f r _ _ a c.finish.result e.answers e.leaves h ((theory K g.met.K.Ring.ring g.met.K.Ring.values s).differences (f p) (f q) ((state s).places p) ((state s).places q) (h p hp) (h q hq));
     }
+
+pub invariant_of-self : goal.invariant_of-self
+invariant_of-self g c = record { at_rest = c.finish.ensures.blank (c.add_scaled-answer.ensures.tidy c.args.self.now.at_rest.tidy) }

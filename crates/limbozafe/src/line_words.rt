@@ -1,0 +1,95 @@
+// The words of a line.
+ghost use Rattle.std.specs.Prelude.{◌≡◌, List, ◌∷◌, length, IfOk, ℕ};
+ghost use Rattle.std.specs.Iterator.{YieldsFirstRef, item_count};
+ghost use Rattle.limbozafe.specs.Words.{words, blank, TakesWord};
+
+use crate::fault::Fault;
+use crate::numbers::{parse_figure, parse_natural};
+
+// What is left of a line.
+#[derive(Clone, Copy)]
+pub(crate) struct Words<'a>(pub(crate) &'a [u8]);
+
+fn is_blank(byte: &u8) -> bool
+    ensures { result ≡ blank byte.now }
+{
+    matches!(*byte, b' ' | b'\t')
+}
+
+impl<'a> Iterator for Words<'a> {
+    type Item = &'a [u8];
+
+    ghost next_gives = { YieldsFirstRef (λ s. words s.0.now) };
+
+    ghost remaining = { item_count (λ s. words s.0.now) };
+
+    fn next(&mut self) -> Option<&'a [u8]> {
+        let line = self.0;
+        let start = line.iter().position(|byte| !is_blank(byte))?;
+        let (_, line) = line.split_at(start);
+        let end = line.iter().position(is_blank).unwrap_or(line.len());
+        let (word, rest) = line.split_at(end);
+        self.0 = rest;
+        Some(word)
+    }
+}
+
+// What a word can be read as.
+pub(crate) trait FromWord: Sized {
+    fn from_word(word: &[u8]) -> Result<Self, Fault>;
+}
+
+impl FromWord for u64 {
+    fn from_word(word: &[u8]) -> Result<u64, Fault> {
+        parse_natural(word).ok_or(Fault::Number)
+    }
+}
+
+impl FromWord for u32 {
+    fn from_word(word: &[u8]) -> Result<u32, Fault> {
+        u32::try_from(u64::from_word(word)?).map_err(|_| Fault::Number)
+    }
+}
+
+// A place, the number of a variable or a count of them: 32 bits, too. There is no `From` between the two types, so `as`.
+impl FromWord for usize {
+    fn from_word(word: &[u8]) -> Result<usize, Fault> {
+        Ok(u32::from_word(word)? as usize)
+    }
+}
+
+// A figure.
+impl FromWord for i64 {
+    fn from_word(word: &[u8]) -> Result<i64, Fault> {
+        parse_figure(word).ok_or(Fault::Number)
+    }
+}
+
+impl<'a> Words<'a> {
+    // The next word, which has to be there.
+    pub(crate) fn word(&mut self) -> Result<&'a [u8], Fault>
+        ensures { IfOk result (λ word. words self.old.0.now ≡ word.now ∷ words self.new.0.now) }
+    {
+        self.next().ok_or(Fault::Missing)
+    }
+
+    // What the next word is read as.
+    pub(crate) fn read<T: FromWord>(&mut self) -> Result<T, Fault>
+        ensures { IfOk result (λ _. TakesWord self.old.0.now self.new.0.now) }
+    {
+        T::from_word(self.word()?)
+    }
+
+    // What the next word is read as, if there is one.
+    pub(crate) fn read_if_any<T: FromWord>(&mut self) -> Result<Option<T>, Fault> {
+        self.next().map(|word| T::from_word(word)).transpose()
+    }
+
+    // The line is at its end.
+    pub(crate) fn end(&mut self) -> Result<(), Fault> {
+        match self.next() {
+            Some(_) => Err(Fault::TooMany),
+            None => Ok(()),
+        }
+    }
+}

@@ -1,5 +1,0 @@
-pub mod Texts
-pub mod Deals
-pub mod Falls
-pub mod Turning
-pub mod Readings

@@ -1,5 +1,0 @@
-use Rattle.sheet_decks.proofs.Texts.{wrote_byte}
-use Rattle.sheet_decks.proofs.numbers.put_byte.Goals as goal
-
-pub returns : goal.returns
-returns c = wrote_byte c.args.output.now c.args.at c.args.byte c.requires

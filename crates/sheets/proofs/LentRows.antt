@@ -1,0 +1,196 @@
+-- The lent rows of a sheet at rest are told by its state. Assumes nothing.
+--     count-table         the count of an area is the length of its table
+--     count-is, place_is  the count and the rows of a place, by the lent rows
+--     lent_same           two sheets at rest with one state, on as many rows, have the same lent rows
+--     lent_stored         and where one place has another table, its rows are written there
+--     lent_kept           so the answer of a call tells what it leaves in the lent rows
+--     ended_lent, left_lent     at the end of a call
+--     refused_lent              and where it was refused
+--     placed_first        an answer that is no refusal had a place
+--     lent_opened         opened, all lent rows are blank
+--     clear_same          blank rows in a working area change nothing
+--     added-is, constant_is, variable_is     what a call answers is the same by the lent rows
+--     lent_added          a sum, brought to its place by the working area, leaves what it says of the state
+use Rattle.std.proofs.Common.{◌≡◌, ℕ, ◌-◌, ◌*◌, ◌<◌, ◌≤◌, Bool, true, false, cond, eqb, List, [], ◌++◌, map, length, get_or, drop, set, replicate, Ok, Err, Result, sym, refl, ap, ◌∙◌, ⊎_elim, arith}
+use Rattle.std.specs.List.{range_with_len}
+use Rattle.std.proofs.lemmas.List.{length-take, length-drop, get_or-set_same, get_or-set_other, length-set}
+use Rattle.std.proofs.lemmas.List.FromFn.{get_or-map-range_with_len, length-map-range_with_len}
+use Rattle.std.proofs.lemmas.Grind.{same_number_lists}
+use Rattle.std.proofs.lemmas.Bool.{cases_lt, cases_eq, ltb-true, eq-eqb, ne_eqb, and_parts, cond-true, cond-false, cond_both}
+use Rattle.refusals.specs.declared.Refusal.{Refusal}
+use Rattle.rings.specs.Kinds.{Kind}
+use Rattle.formats.specs.Drafts.{variables}
+use Rattle.rows.specs.Lists.{part, put}
+use Rattle.rows.specs.Tables.{blank, sum, limited}
+use Rattle.rows.specs.declared.Row.{Row}
+use Rattle.areas.specs.Areas.{contents, capacity, count as counted}
+use Rattle.areas.proofs.Shares.{area_end}
+use Rattle.areas.proofs.Same.{same_rows, stored_rows, cleared_rows}
+use Rattle.refusals.specs.declared.Refusal.TheVariants.{Place}
+use Rattle.areas.proofs.Same.{fresh_rows}
+use Rattle.sheets.specs.States.{State, placed, opened as opened_state, kept as kept_state}
+use Rattle.sheets.specs.Desks.{state, Blank}
+use Rattle.sheets.specs.Calls.{all_placed, added, constant_rows as constant_in, variable_rows as variable_in}
+use Rattle.sheets.specs.Lent.{Lent, lent_of, room, count, place, opened, stored, cleared, settled, kept, add_answer, add_leaves, constant_rows, variable_rows}
+use Rattle.sheets.specs.declared.desk.Desk.{Desk}
+use Rattle.sheets.proofs.States.{few-rows}
+use Rattle.sheets.proofs.Outcomes.{place-table, Ended}
+
+module _ {V : Type 0} (s : Desk V) where
+  abbrev rows : List (Row V)
+  rows = s.areas.rows.now
+
+  abbrev places : ℕ → List (Row V)
+  places = (state s).places
+
+  -- a table has as many rows as its area counts
+  pub count-table : (p : ℕ) → p < 8 → length (places p) ≡ counted s.areas p
+  count-table p h =
+      let c = (state s).room in
+      let e = area_end p (length rows) (omega arith) in
+      let t = length-take (counted s.areas p) (drop (p * c) rows) in
+      let d = length-drop (p * c) rows in
+      ap length (place-table s p h) ∙ omega arith
+
+  pub count-is : (p : ℕ) → p < 8 → count (lent_of s) p ≡ length (places p)
+  count-is p h = let g = get_or-map-range_with_len (λ n. length (places n)) 0 8 p p 0 h (omega arith) in let f = few-rows s p in omega arith
+
+  pub place_is : (p : ℕ) → p < 8 → place (lent_of s) p ≡ places p
+  place_is p h = ap (λ n. part (p * (state s).room) n rows) (count-is p h ∙ count-table p h) ∙ sym (place-table s p h)
+
+-- ---- two sheets at rest, on as many rows
+module _ {V : Type 0} (K : Kind V) (s t : Desk V) (b : Blank K s) (d : Blank K t) (long : length t.areas.rows.now ≡ length s.areas.rows.now) where
+  abbrev old_tables : ℕ → List (Row V)
+  old_tables = (contents s.areas).tables
+
+  abbrev new_tables : ℕ → List (Row V)
+  new_tables = (contents t.areas).tables
+
+  -- the tables of the working areas are empty in both
+  empty : (a : ℕ) → 8 ≤ a → a < 12 → new_tables a ≡ old_tables a
+  empty a low high = d.working a low high ∙ sym (b.working a low high)
+
+  module _ (e : state t ≡ state s) where
+    place_same : (p : ℕ) → p < 8 → new_tables p ≡ old_tables p
+    place_same p h = sym (place-table t p h) ∙ ap (λ u. u.places p) e ∙ place-table s p h
+
+    same-rows : t.areas.rows.now ≡ s.areas.rows.now
+    same-rows = same_rows K s.areas.rows.now t.areas.rows.now s.areas.counts t.areas.counts long b.tidy d.tidy (λ a h. ⊎_elim (λ l. place_same a l) (λ g. empty a g h) (cases_lt a 8))
+
+    pub lent_same : lent_of t ≡ lent_of s
+    lent_same i = record { rows = same-rows i; counts = map (λ p. length ((e i).places p)) (range_with_len 0 8); vars = (e i).vars }
+
+  module _ (r : ℕ) (h : r < 8) (xs : List (Row V)) (e : state t ≡ kept_state (state s) r (Ok xs)) where
+    abbrev after : ℕ → List (Row V)
+    after p = cond (eqb p r) xs ((state s).places p)
+
+    this : new_tables r ≡ xs
+    this = sym (place-table t r h) ∙ ap (λ u. u.places r) e ∙ cond-true _ _ _ (eq-eqb r r refl)
+
+    other : (a : ℕ) → a < 12 → (a ≡ r → ⊥) → new_tables a ≡ old_tables a
+    other a l ne =
+        ⊎_elim (λ p. sym (place-table t a p) ∙ ap (λ u. u.places a) e ∙ cond-false _ _ _ (ne_eqb a r ne) ∙ place-table s a p)
+        (λ g. empty a g l)
+        (cases_lt a 8)
+
+    stored-rows : t.areas.rows.now ≡ (stored K (lent_of s) r xs).rows
+    stored-rows =
+        stored_rows K s.areas.rows.now t.areas.rows.now s.areas.counts t.areas.counts long b.tidy d.tidy r (omega arith) xs this other
+        ∙ ap (λ n. put s.areas.rows.now (r * (state s).room) (xs ++ replicate (n - length xs) (blank K))) (sym (count-is s r h ∙ count-table s r h))
+
+    abbrev lengths : (ℕ → List (Row V)) → List ℕ
+    lengths f = map (λ p. length (f p)) (range_with_len 0 8)
+
+    stored-counts : lengths after ≡ set (lengths (state s).places) r (length xs)
+    stored-counts =
+        let a = length-map-range_with_len (λ p. length (after p)) 0 8 in
+        let l = length-map-range_with_len (λ p. length ((state s).places p)) 0 8 in
+        let q = length-set (lengths (state s).places) r (length xs) in
+        same_number_lists _ _ (a ∙ sym l ∙ sym q)
+        (λ k m.
+        get_or-map-range_with_len (λ p. length (after p)) 0 8 k k 0 (omega arith) (omega arith)
+        ∙ ⊎_elim
+        (λ x. ap length (cond-true _ _ _ (eq-eqb k r x)) ∙ sym (ap (λ n. get_or (set (lengths (state s).places) r (length xs)) n 0) x ∙ get_or-set_same (lengths (state s).places) r (length xs) 0 (omega arith)))
+        (λ ne. ap length (cond-false _ _ _ (ne_eqb k r ne)) ∙ sym (get_or-set_other (lengths (state s).places) r k (length xs) 0 ne ∙ get_or-map-range_with_len (λ p. length ((state s).places p)) 0 8 k k 0 (omega arith) (omega arith)))
+        (cases_eq k r))
+
+    pub lent_stored : lent_of t ≡ stored K (lent_of s) r xs
+    lent_stored = λ i. record { rows = stored-rows i; counts = (ap (λ u. lengths u.places) e ∙ stored-counts) i; vars = (e i).vars }
+
+  pub lent_kept : (r : ℕ) (a : Result (List (Row V)) Refusal) → ((xs : List (Row V)) → a ≡ Ok xs → r < 8) → state t ≡ kept_state (state s) r a → lent_of t ≡ kept K (lent_of s) r a
+  lent_kept r (Ok xs) h e = lent_stored r (h xs refl) xs e
+  lent_kept r (Err x) h e = lent_same e
+
+-- ---- the end of a call
+kept_lent : {V : Type 0} (s : State V) (r : ℕ) (a : Result (List (Row V)) Refusal) → (kept_state s r a).lent ≡ s.lent
+kept_lent s r (Ok xs) = refl
+kept_lent s r (Err x) = refl
+
+module _ {V : Type 0} (K : Kind V) (s u : Desk V) (r : ℕ) (a : Result (List (Row V)) Refusal) (answer : Result (Unit {0}) Refusal) (e : Ended K s u r a answer) where
+  pub ended_lent : length u.areas.rows.now ≡ length s.areas.rows.now
+  ended_lent = ap (λ d. d.lent) e.leaves ∙ kept_lent (state s) r a
+
+  pub left_lent : Blank K s → ((xs : List (Row V)) → a ≡ Ok xs → r < 8) → lent_of u ≡ kept K (lent_of s) r a
+  left_lent b h = lent_kept K s u b (e.blank b) ended_lent r a h e.leaves
+
+-- a refusal leaves the lent rows
+pub refused_lent : {V : Type 0} (K : Kind V) (l : Lent V) (r : ℕ) (a : Result (List (Row V)) Refusal) (x : Refusal) → a ≡ Err x → l ≡ kept K l r a
+refused_lent K l r a x e = ap (kept K l r) (sym e)
+
+-- the test of a place before an answer
+pub placed_first : {X : Type 0} (r : ℕ) (a : Result X Refusal) (x : X) → cond (placed r) a (Err Place) ≡ Ok x → r < 8
+placed_first r a x = cond_both (placed r) a (Err Place) (λ w. w ≡ Ok x → r < 8) (λ t e. ltb-true r 8 t) (λ t e. absurd (let z : ◌≡◌ {A = ℕ} 0 1 = cc in omega arith))
+
+-- ---- a sheet that was opened
+module _ {V : Type 0} (K : Kind V) (s : Desk V) (b : Blank K s) where
+  pub lent_opened : (n : ℕ) → length s.areas.rows.now ≡ n → state s ≡ opened_state n (variables s.format) → lent_of s ≡ opened K n (variables s.format)
+  lent_opened n long e =
+      let none : (a : ℕ) → a < 12 → (contents s.areas).tables a ≡ [] = λ a h. ⊎_elim (λ l. sym (place-table s a l) ∙ ap (λ u. u.places a) e) (λ g. b.working a g h) (cases_lt a 8) in
+      let rows = fresh_rows K s.areas.rows.now s.areas.counts b.tidy none ∙ ap (λ m. replicate m (blank K)) long in
+      λ i. record { rows = rows i; counts = map (λ p. length ((e i).places p)) (range_with_len 0 8); vars = variables s.format }
+
+  -- blank rows in a working area change nothing
+  pub clear_same : (n : ℕ) → n ≤ room (lent_of s) → lent_of s ≡ cleared K (room (lent_of s)) (lent_of s) n
+  clear_same n few =
+      let rows = cleared_rows K s.areas.rows.now s.areas.counts 8 n b.tidy (omega arith) (b.working 8 (omega arith) (omega arith)) few in
+      λ i. record { rows = rows i; counts = (lent_of s).counts; vars = (lent_of s).vars }
+
+-- ---- answers
+module _ {V : Type 0} (K : Kind V) (s : Desk V) where
+  pub added-is : (r p q : ℕ) → add_answer K (lent_of s) r p q ≡ added K (state s) r p q
+  added-is r p q = by (all_placed r p q) refl
+    where
+      by : (t : Bool) → all_placed r p q ≡ t → cond t (limited (room (lent_of s)) (sum K (place (lent_of s) p) (place (lent_of s) q))) (Err Place) ≡ cond t (limited (state s).room (sum K ((state s).places p) ((state s).places q))) (Err Place)
+      by true e =
+          let h = and_parts _ _ e in
+          let k = and_parts _ _ h.1 in
+          λ i. limited (state s).room (sum K (place_is s p (ltb-true p 8 k.0) i) (place_is s q (ltb-true q 8 k.1) i))
+      by false e = refl
+
+  pub constant_is : (r : ℕ) (w : Result V Refusal) → cond (placed r) (constant_rows K (room (lent_of s)) w) (Err Place) ≡ cond (placed r) (constant_in K (state s) w) (Err Place)
+  constant_is r (Ok v) = refl
+  constant_is r (Err x) = refl
+
+  pub variable_is : (r : ℕ) (w : Result ℕ Refusal) → cond (placed r) (variable_rows K (room (lent_of s)) w) (Err Place) ≡ cond (placed r) (variable_in K (state s) w) (Err Place)
+  variable_is r (Ok k) = refl
+  variable_is r (Err x) = refl
+
+-- ---- a sum
+module _ {V : Type 0} (K : Kind V) (s t : Desk V) (b : Blank K s) (d : Blank K t) (long : length t.areas.rows.now ≡ length s.areas.rows.now) where
+  same-room : room (lent_of t) ≡ room (lent_of s)
+  same-room = ap capacity long
+
+  settled-is : (r : ℕ) → r < 8 → (a : Result (List (Row V)) Refusal) → state t ≡ kept_state (state s) r a → lent_of t ≡ settled K (lent_of s) r a
+  settled-is r h (Ok xs) e =
+      let f = few-rows t r in
+      let m : (state t).places r ≡ xs = ap (λ u. u.places r) e ∙ cond-true _ _ _ (eq-eqb r r refl) in
+      let l = ap length m in
+      clear_same K t d (length xs) (omega arith) ∙ (λ i. cleared K (same-room i) (lent_stored K s t b d long r h xs e i) (length xs))
+  settled-is r h (Err x) e = lent_same K s t b d long e ∙ clear_same K s b (room (lent_of s)) (omega arith)
+
+  pub lent_added : (r p q : ℕ) → state t ≡ kept_state (state s) r (added K (state s) r p q) → lent_of t ≡ add_leaves K (lent_of s) r p q
+  lent_added r p q e = by (all_placed r p q) refl (e ∙ ap (kept_state (state s) r) (sym (added-is K s r p q)))
+    where
+      by : (w : Bool) → all_placed r p q ≡ w → state t ≡ kept_state (state s) r (add_answer K (lent_of s) r p q) → lent_of t ≡ cond w (settled K (lent_of s) r (add_answer K (lent_of s) r p q)) (lent_of s)
+      by true f g = settled-is r (ltb-true r 8 (and_parts _ _ f).0) (add_answer K (lent_of s) r p q) g
+      by false f g = lent_same K s t b d long (g ∙ ap (λ w. kept_state (state s) r (cond w (limited (room (lent_of s)) (sum K (place (lent_of s) p) (place (lent_of s) q))) (Err Place))) f)

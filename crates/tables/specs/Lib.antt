@@ -1,4 +1,0 @@
-pub mod Merging
-pub mod Sheets
-pub mod Calls
-pub mod Promises
