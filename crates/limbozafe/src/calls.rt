@@ -63,8 +63,8 @@ impl<'a> Console<'a> {
                 Err(fault) => self.complain(number, fault),
             },
             Request::Write(place, room) => self.write(sheet, place, room),
-            Request::Divide(division) => match D::of(division) {
-                Some(division) => self.perform(sheet, &Call::Divide(division)),
+            Request::Divide(r, p, q) => match D::leave() {
+                Some(leave) => self.perform(sheet, &Call::Divide(r, p, q, leave)),
                 None => self.complain(number, Fault::NoDivision),
             },
             Request::Call(call) => self.perform(sheet, &call),

@@ -7,7 +7,7 @@ use crate::line_words::Words;
 use crate::script::Line;
 use formats::{Draft, Format};
 use refusals::Refusal;
-use uses::{Call, Division, NoDivision};
+use uses::{Call, NoDivision};
 
 // A call that is no division.
 pub(crate) type Plain<'a> = Call<'a, NoDivision>;
@@ -29,7 +29,8 @@ pub(crate) enum Request<'a> {
     File(usize, &'a [u8]),
     // a place, and the room of the output
     Write(usize, Option<u64>),
-    Divide(Division),
+    // places: of the quotient, the dividend, the divisor
+    Divide(usize, usize, usize),
     Call(Plain<'a>),
 }
 
@@ -62,14 +63,11 @@ fn two<'a, F: FnOnce(usize, usize) -> Plain<'a>>(
     Ok(call(words.read()?, words.read()?))
 }
 
-// A call on the next three numbers.
-fn three<'a, F: FnOnce(usize, usize, usize) -> Plain<'a>>(
-    words: &mut Words,
-    call: F,
-) -> Result<Plain<'a>, Fault>
-    requires { F.IsAlwaysCallable call }
+// What is made of the next three numbers.
+fn three<T, F: FnOnce(usize, usize, usize) -> T>(words: &mut Words, made: F) -> Result<T, Fault>
+    requires { F.IsAlwaysCallable made }
 {
-    Ok(call(words.read()?, words.read()?, words.read()?))
+    Ok(made(words.read()?, words.read()?, words.read()?))
 }
 
 // A call on the next five numbers.
@@ -126,15 +124,6 @@ fn read<'a>(words: &mut Words<'a>, cards: &'a [u8]) -> Result<Request<'a>, Fault
     }
 }
 
-// The division of the next three places.
-fn division_of(words: &mut Words) -> Result<Division, Fault> {
-    Ok(Division {
-        place: words.read()?,
-        dividend: words.read()?,
-        divisor: words.read()?,
-    })
-}
-
 // The request of a name and the words and cards after it.
 fn request_of<'a>(
     name: &[u8],
@@ -145,7 +134,7 @@ fn request_of<'a>(
         b"open" => Ok(Request::Open(words.read()?)),
         b"read" => read(words, cards),
         b"write" => Ok(Request::Write(words.read()?, words.read_if_any()?)),
-        b"divide" => Ok(Request::Divide(division_of(words)?)),
+        b"divide" => three(words, Request::Divide),
         _ => Ok(Request::Call(call_of(name, words)?)),
     }
 }

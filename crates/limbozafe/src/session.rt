@@ -90,7 +90,7 @@ impl<'a> Session<'a> {
     // here, and again on the sheet.
     fn check(&self, asked: &Asked) -> Result<(), Fault> {
         match asked.request {
-            Request::Divide(_) if asked.kind == Kind::Words => Err(Fault::NoDivision),
+            Request::Divide(..) if asked.kind == Kind::Words => Err(Fault::NoDivision),
             Request::File(_, name) => self.console.file_text(name).map(|_| ()),
             _ => Ok(()),
         }

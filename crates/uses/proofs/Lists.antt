@@ -21,7 +21,6 @@ use Rattle.uses.specs.Runs.{answers_all, output_all, Ran, Onward}
 use Rattle.uses.specs.declared.call.Call.{Call as Given}
 use Rattle.uses.specs.declared.call.Call.TheVariants.{Read, Constant, Variable as Variable', Copied, Negate, Add, Subtract, Multiply, Divide, Differentiate, Substitute, Truncate, MultiplyTruncate, Write, Equal, Leading}
 use Rattle.uses.specs.declared.call.Reply.{Reply}
-use Rattle.uses.specs.declared.division.Division.{Division}
 
 module _ {V : Type 0} (K : Kind V) (over : Over V) where
   pub after_more : (s : State V) (cs ds : List Call) → after_all K over s (cs ++ ds) ≡ after_all K over (after_all K over s cs) ds
@@ -91,8 +90,8 @@ module _ {V X : Type 0} (K : Kind V) (call : X → Call) (s : State V) (calls : 
     others = drop-set-lt (i + 1) told i a (omega arith) ∙ ap (drop 1) (sym (drop_more told i a lt') ∙ h.others ∙ drop_more before i a lt'');
   }
 
-module _ {D : Type 0} (division_of : D → Division) (n : ℕ) where
-  undivided : (D → false ≡ true) → (c : Given D) → divides (call_of division_of n c) ≡ false
+module _ {D : Type 0} (n : ℕ) where
+  undivided : (D → false ≡ true) → (c : Given D) → divides (call_of n c) ≡ false
   undivided there (Read r text) = refl
   undivided there (Constant r a b) = refl
   undivided there (Variable' r v) = refl
@@ -101,7 +100,7 @@ module _ {D : Type 0} (division_of : D → Division) (n : ℕ) where
   undivided there (Add r p q) = refl
   undivided there (Subtract r p q) = refl
   undivided there (Multiply r p q) = refl
-  undivided there (Divide d) = absurd (true≢false (sym (there d)))
+  undivided there (Divide r p q leave) = absurd (true≢false (sym (there leave)))
   undivided there (Differentiate r p v) = refl
   undivided there (Substitute r p q v) = refl
   undivided there (Truncate r p k m) = refl
@@ -110,7 +109,7 @@ module _ {D : Type 0} (division_of : D → Division) (n : ℕ) where
   undivided there (Equal p q) = refl
   undivided there (Leading p) = refl
 
-  pub calls_allowed : (may : Bool) → (D → may ≡ true) → (cs : List (Given D)) → Allowed may (map (call_of division_of n) cs)
+  pub calls_allowed : (may : Bool) → (D → may ≡ true) → (cs : List (Given D)) → Allowed may (map (call_of n) cs)
   calls_allowed true there cs = tt
   calls_allowed false there [] = tt
   calls_allowed false there (c ∷ cs) = (undivided there c, calls_allowed false there cs)

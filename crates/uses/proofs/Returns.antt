@@ -21,7 +21,6 @@ use Rattle.uses.specs.Performing.{call_of, output_after}
 use Rattle.uses.specs.declared.call.Call.{Call}
 use Rattle.uses.specs.declared.call.Reply.{Reply}
 use Rattle.uses.specs.declared.call.Reply.TheVariants.{Done}
-use Rattle.uses.specs.declared.division.Division.{Division}
 
 abbrev pub told_of : {V : Type 0} → Result (Unit {0}) Refusal → Result (Reply V) ReadFault
 told_of (Ok x) = Ok Done
@@ -42,9 +41,9 @@ stops got (Err f) e was h = ap Err h ∙ sym (ap told_of was)
 pub figures_back : {V : Type 0} (K : Kind V) (s : State V) (r : ℕ) (a b : ℤ) → SFits w64 a → SFits w64 b → call.constant K s r (to_z w64 (of_z w64 a)) (to_z w64 (of_z w64 b)) ≡ call.constant K s r a b
 figures_back K s r a b x y i = call.constant K s r (to_z-of_z w64 a x i) (to_z-of_z w64 b y i)
 
-module _ {V D : Type 0} (K : Kind V) (division_of : D → Division) (divides_by : Over V → Type 0) (old : State V) (out : List ℕ) where
+module _ {V D : Type 0} (K : Kind V) (divides_by : Over V → Type 0) (old : State V) (out : List ℕ) where
   abbrev shown : Call D → conduct.Call
-  shown c = call_of division_of (length out) c
+  shown c = call_of (length out) c
 
   -- the call c answered a, and left the state new and the output written
   pub record Performed (c : Call D) (a : Result (Reply V) ReadFault) (new : State V) (written : List ℕ) : Type 0 where

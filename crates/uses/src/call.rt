@@ -2,7 +2,7 @@
 use cards::ReadFault;
 use rows::Row;
 
-// A call with its arguments, in the order that the sheet's own calls take them. Its division is a D.
+// A call with its arguments, in the order that the sheet's own calls take them. A division carries a leave to divide, D.
 #[derive(Clone, Copy)]
 pub enum Call<'a, D> {
     // the deck at the start of the text
@@ -14,7 +14,7 @@ pub enum Call<'a, D> {
     Add(usize, usize, usize),
     Subtract(usize, usize, usize),
     Multiply(usize, usize, usize),
-    Divide(D),
+    Divide(usize, usize, usize, D),
     Differentiate(usize, usize, usize),
     Substitute(usize, usize, usize, usize),
     Truncate(usize, usize, usize, u32),

@@ -1,5 +1,5 @@
 // Whether a list of calls may divide: over a domain, or not at all.
-ghost use Rattle.std.specs.Prelude.{◌≡◌, ◌↔◌, Bool, true, false, List, IsSome, IfSome, refl};
+ghost use Rattle.std.specs.Prelude.{◌≡◌, ◌↔◌, ℕ, Bool, true, false, List, IsSome, refl};
 ghost use Rattle.std.proofs.Common.{subst, sym};
 ghost use Rattle.formats.specs.Drafts.{Sound};
 ghost use Rattle.formats.specs.declared.variable.Variable.{Variable as VariableOf};
@@ -9,52 +9,42 @@ ghost use Rattle.sheets.specs.States.{kept};
 ghost use Rattle.sheets.specs.Sheets.{state};
 ghost use Rattle.conduct.specs.Uses.{Promise};
 ghost use Rattle.conduct.proofs.Settled.{over_domains, over_rings};
-ghost use Rattle.uses.specs.Dividing.{rows_of, from_none, from_never};
-ghost use Rattle.uses.specs.declared.division.Division.{Division as DivisionOf};
+ghost use Rattle.uses.specs.Dividing.{rows_of, from_none};
 
 use refusals::Refusal;
 use rings::{Domain, Ring};
 use sheets::Sheet;
 
-// The division of a domain: place := dividend / divisor, exactly.
+// The leave to divide that a domain gives.
 #[derive(Clone, Copy)]
-pub struct Division {
-    pub place: usize,
-    pub dividend: usize,
-    pub divisor: usize,
-}
+pub struct Division;
 
-// There is none.
+// The leave of a kind without division: there is none.
 #[derive(Clone, Copy)]
-enum Never {}
+pub enum NoDivision {}
 
-// The division of a kind that has none.
-#[derive(Clone, Copy)]
-pub struct NoDivision {
-    never: Never,
-}
-
-// The divisions that a list of calls may have on a sheet of the kind K.
+// The leave that a division on a sheet of the kind K has to carry.
 pub trait Divides<K: Ring>: Copy {
-    // the division as one of a domain
-    ghost division_of: { Self → DivisionOf };
-
     // whether there is one
     ghost may: { Bool };
 
-    // whether these are the quotients of coefficients; any are where there is no division
+    // whether these are the quotients of coefficients; any are where nothing divides
     ghost divides_by: { Over K → Type 0 };
 
-    // The division of a domain as one of these, if there are any.
-    fn of(division: Division) -> Option<Self>
-        ensures some { IsSome result ↔ (may ≡ true) }
-        ensures same { IfSome result (λ d. division_of d ≡ division) };
+    fn leave() -> Option<Self>
+        ensures some { IsSome result ↔ (may ≡ true) };
 
-    fn divide(self, sheet: &mut Sheet<'_, K>) -> Result<(), Refusal>
-        ensures answer { (over : Over K) → divides_by over → result ≡ answered (rows_of K.kind over (state sheet.old) (division_of self)) }
-        ensures leaves { (over : Over K) → divides_by over → state sheet.new ≡ kept (state sheet.old) (division_of self).place (rows_of K.kind over (state sheet.old) (division_of self)) };
+    // Makes the quotient of two places the rows of a place, where there is a leave; else it is no operation.
+    fn divide(
+        sheet: &mut Sheet<'_, K>,
+        place: usize,
+        dividend: usize,
+        divisor: usize,
+    ) -> Result<(), Refusal>
+        ensures answer { (over : Over K) → divides_by over → result ≡ answered (rows_of K.kind over may (state sheet.old) place dividend divisor) }
+        ensures leaves { (over : Over K) → divides_by over → state sheet.new ≡ kept (state sheet.old) place (rows_of K.kind over may (state sheet.old) place dividend divisor) };
 
-    // There is a division only where calls may divide.
+    // There is a leave only where calls may divide.
     ghost there: { Self → may ≡ true };
 
     // The promise over whole uses. Where calls divide, no two nonzero members may have the product zero.
@@ -62,41 +52,47 @@ pub trait Divides<K: Ring>: Copy {
 }
 
 impl<K: Ring> Divides<K> for NoDivision {
-    ghost division_of = { from_none };
-
     ghost may = { false };
 
     ghost divides_by = { λ over. Unit {0} };
 
-    fn of(_division: Division) -> Option<NoDivision> {
+    fn leave() -> Option<NoDivision> {
         None
     }
 
-    fn divide(self, _sheet: &mut Sheet<'_, K>) -> Result<(), Refusal> {
-        match self.never {}
+    fn divide(
+        _sheet: &mut Sheet<'_, K>,
+        _place: usize,
+        _dividend: usize,
+        _divisor: usize,
+    ) -> Result<(), Refusal> {
+        Err(Refusal::Operation)
     }
 
-    ghost there = { λ d. from_never d.never };
+    ghost there = { from_none };
 
     ghost promised = { λ over vs any met sound. over_rings K.kind K.ring K.values K.writing over vs sound };
 }
 
 impl<K: Domain> Divides<K> for Division {
-    ghost division_of = { λ d. d };
-
     ghost may = { true };
 
     ghost divides_by = { λ over. over ≡ K.quotient };
 
-    fn of(division: Division) -> Option<Division> {
-        Some(division)
+    fn leave() -> Option<Division> {
+        Some(Division)
     }
 
-    fn divide(self, sheet: &mut Sheet<'_, K>) -> Result<(), Refusal> {
-        sheet.divide(self.place, self.dividend, self.divisor)
+    fn divide(
+        sheet: &mut Sheet<'_, K>,
+        place: usize,
+        dividend: usize,
+        divisor: usize,
+    ) -> Result<(), Refusal> {
+        sheet.divide(place, dividend, divisor)
     }
 
-    ghost there = { λ d. refl };
+    ghost there = { λ leave. refl };
 
     ghost promised = { λ over vs is met sound. subst (λ o. Promise K.Ring.kind o vs true) (sym is) (over_domains K.Ring.kind K.Ring.ring K.Ring.values K.Ring.writing K.quotient vs sound K.division (K.Ring.wholeness (met refl))) };
 }

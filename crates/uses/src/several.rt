@@ -22,9 +22,9 @@ pub fn run<K: Ring, D: Divides<K>>(
     output: &mut [u8],
 ) -> usize
     ensures count { result ≡ min (length calls.now) (length answers.old) }
-    ensures ran { (over : Over K) → D.divides_by over → Ran K.kind over (state sheet.old) (map (call_of D.division_of (length output.old)) (take result calls.now)) output.old (state sheet.new) (map answer_of (take result answers.new)) output.new }
+    ensures ran { (over : Over K) → D.divides_by over → Ran K.kind over (state sheet.old) (map (call_of (length output.old)) (take result calls.now)) output.old (state sheet.new) (map answer_of (take result answers.new)) output.new }
     ensures others { drop result answers.new ≡ drop result answers.old }
-    ensures promise { (over : Over K) (vs : List VariableOf) → D.divides_by over → Sound vs → (D.may ≡ true → K.whole ≡ true) → Onward K.kind over vs D.may (state sheet.old) (map (call_of D.division_of (length output.old)) (take result calls.now)) (state sheet.new) }
+    ensures promise { (over : Over K) (vs : List VariableOf) → D.divides_by over → Sound vs → (D.may ≡ true → K.whole ≡ true) → Onward K.kind over vs D.may (state sheet.old) (map (call_of (length output.old)) (take result calls.now)) (state sheet.new) }
 {
     let count = calls.len().min(answers.len());
     for (i, call) in calls[..count].iter().enumerate() {

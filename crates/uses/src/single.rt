@@ -21,9 +21,9 @@ fn carry_out<K: Ring, D: Divides<K>>(
     call: &Call<'_, D>,
     output: &mut [u8],
 ) -> Answer<K>
-    ensures answer { (over : Over K) → D.divides_by over → answer_of result ≡ answer_in K.kind over (state sheet.old) (call_of D.division_of (length output.old) call.now) }
-    ensures leaves { (over : Over K) → D.divides_by over → state sheet.new ≡ after K.kind over (state sheet.old) (call_of D.division_of (length output.old) call.now) }
-    ensures output { output.new ≡ output_after K.kind (state sheet.old) (call_of D.division_of (length output.old) call.now) output.old }
+    ensures answer { (over : Over K) → D.divides_by over → answer_of result ≡ answer_in K.kind over (state sheet.old) (call_of (length output.old) call.now) }
+    ensures leaves { (over : Over K) → D.divides_by over → state sheet.new ≡ after K.kind over (state sheet.old) (call_of (length output.old) call.now) }
+    ensures output { output.new ≡ output_after K.kind (state sheet.old) (call_of (length output.old) call.now) output.old }
 {
     match *call {
         Call::Read(r, text) => return Ok(Reply::Bytes(read(sheet, r, text)?)),
@@ -34,7 +34,7 @@ fn carry_out<K: Ring, D: Divides<K>>(
         Call::Add(r, p, q) => sheet.add(r, p, q)?,
         Call::Subtract(r, p, q) => sheet.subtract(r, p, q)?,
         Call::Multiply(r, p, q) => sheet.multiply(r, p, q)?,
-        Call::Divide(division) => division.divide(sheet)?,
+        Call::Divide(r, p, q, _leave) => D::divide(sheet, r, p, q)?,
         Call::Differentiate(r, p, v) => sheet.differentiate(r, p, v)?,
         Call::Substitute(r, p, q, v) => sheet.substitute(r, p, q, v)?,
         Call::Truncate(r, p, k, n) => sheet.truncate(r, p, k, n)?,
@@ -52,10 +52,10 @@ pub fn perform<K: Ring, D: Divides<K>>(
     call: &Call<'_, D>,
     output: &mut [u8],
 ) -> Answer<K>
-    ensures answer { (over : Over K) → D.divides_by over → answer_of result ≡ answer_in K.kind over (state sheet.old) (call_of D.division_of (length output.old) call.now) }
-    ensures leaves { (over : Over K) → D.divides_by over → state sheet.new ≡ after K.kind over (state sheet.old) (call_of D.division_of (length output.old) call.now) }
-    ensures output { output.new ≡ output_after K.kind (state sheet.old) (call_of D.division_of (length output.old) call.now) output.old }
-    ensures promise { (over : Over K) (vs : List VariableOf) → D.divides_by over → Sound vs → (D.may ≡ true → K.whole ≡ true) → Onward K.kind over vs D.may (state sheet.old) (call_of D.division_of (length output.old) call.now ∷ []) (state sheet.new) }
+    ensures answer { (over : Over K) → D.divides_by over → answer_of result ≡ answer_in K.kind over (state sheet.old) (call_of (length output.old) call.now) }
+    ensures leaves { (over : Over K) → D.divides_by over → state sheet.new ≡ after K.kind over (state sheet.old) (call_of (length output.old) call.now) }
+    ensures output { output.new ≡ output_after K.kind (state sheet.old) (call_of (length output.old) call.now) output.old }
+    ensures promise { (over : Over K) (vs : List VariableOf) → D.divides_by over → Sound vs → (D.may ≡ true → K.whole ≡ true) → Onward K.kind over vs D.may (state sheet.old) (call_of (length output.old) call.now ∷ []) (state sheet.new) }
 {
     carry_out(sheet, call, output)
 }

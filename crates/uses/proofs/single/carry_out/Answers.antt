@@ -16,7 +16,7 @@ returns-in_err-negate-in-Negate g c =
     let s = state c.args.sheet.now in
     let w = c.in-Negate in
     let told = c.from_residual-in_err-negate-in-Negate in
-    let p = changes K D.division_of D.divides_by s c.args.output.now c.args.call.now _ w.is (λ over. call.negated K s w.r w.p) w.r (λ over. refl) (λ over. refl) refl c.negate.result told.result (state c.negate.new.self) (stops c.negate.result told.result c.in_err-negate-in-Negate.field-0.0 c.in_err-negate-in-Negate.was told.ensures.1) (λ over by. c.negate.ensures.answer) (λ over by. c.negate.ensures.leaves) in
+    let p = changes K D.divides_by s c.args.output.now c.args.call.now _ w.is (λ over. call.negated K s w.r w.p) w.r (λ over. refl) (λ over. refl) refl c.negate.result told.result (state c.negate.new.self) (stops c.negate.result told.result c.in_err-negate-in-Negate.field-0.0 c.in_err-negate-in-Negate.was told.ensures.1) (λ over by. c.negate.ensures.answer) (λ over by. c.negate.ensures.leaves) in
     record { answer = p.answer; leaves = p.leaves; output = p.output }
 
 pub returns-in_err-add-in-Add : goal.returns-in_err-add-in-Add
@@ -26,7 +26,7 @@ returns-in_err-add-in-Add g c =
     let s = state c.args.sheet.now in
     let w = c.in-Add in
     let told = c.from_residual-in_err-add-in-Add in
-    let p = changes K D.division_of D.divides_by s c.args.output.now c.args.call.now _ w.is (λ over. call.added K s w.r w.p w.q) w.r (λ over. refl) (λ over. refl) refl c.add.result told.result (state c.add.new.self) (stops c.add.result told.result c.in_err-add-in-Add.field-0.0 c.in_err-add-in-Add.was told.ensures.1) (λ over by. c.add.ensures.answer) (λ over by. c.add.ensures.leaves) in
+    let p = changes K D.divides_by s c.args.output.now c.args.call.now _ w.is (λ over. call.added K s w.r w.p w.q) w.r (λ over. refl) (λ over. refl) refl c.add.result told.result (state c.add.new.self) (stops c.add.result told.result c.in_err-add-in-Add.field-0.0 c.in_err-add-in-Add.was told.ensures.1) (λ over by. c.add.ensures.answer) (λ over by. c.add.ensures.leaves) in
     record { answer = p.answer; leaves = p.leaves; output = p.output }
 
 pub returns-in_err-subtract-in-Subtract : goal.returns-in_err-subtract-in-Subtract
@@ -36,7 +36,7 @@ returns-in_err-subtract-in-Subtract g c =
     let s = state c.args.sheet.now in
     let w = c.in-Subtract in
     let told = c.from_residual-in_err-subtract-in-Subtract in
-    let p = changes K D.division_of D.divides_by s c.args.output.now c.args.call.now _ w.is (λ over. call.subtracted K s w.r w.p w.q) w.r (λ over. refl) (λ over. refl) refl c.subtract.result told.result (state c.subtract.new.self) (stops c.subtract.result told.result c.in_err-subtract-in-Subtract.field-0.0 c.in_err-subtract-in-Subtract.was told.ensures.1) (λ over by. c.subtract.ensures.answer) (λ over by. c.subtract.ensures.leaves) in
+    let p = changes K D.divides_by s c.args.output.now c.args.call.now _ w.is (λ over. call.subtracted K s w.r w.p w.q) w.r (λ over. refl) (λ over. refl) refl c.subtract.result told.result (state c.subtract.new.self) (stops c.subtract.result told.result c.in_err-subtract-in-Subtract.field-0.0 c.in_err-subtract-in-Subtract.was told.ensures.1) (λ over by. c.subtract.ensures.answer) (λ over by. c.subtract.ensures.leaves) in
     record { answer = p.answer; leaves = p.leaves; output = p.output }
 
 pub returns-in_err-multiply-in-Multiply : goal.returns-in_err-multiply-in-Multiply
@@ -46,7 +46,7 @@ returns-in_err-multiply-in-Multiply g c =
     let s = state c.args.sheet.now in
     let w = c.in-Multiply in
     let told = c.from_residual-in_err-multiply-in-Multiply in
-    let p = changes K D.division_of D.divides_by s c.args.output.now c.args.call.now _ w.is (λ over. call.multiplied K s w.r w.p w.q) w.r (λ over. refl) (λ over. refl) refl c.multiply.result told.result (state c.multiply.new.self) (stops c.multiply.result told.result c.in_err-multiply-in-Multiply.field-0.0 c.in_err-multiply-in-Multiply.was told.ensures.1) (λ over by. c.multiply.ensures.answer) (λ over by. c.multiply.ensures.leaves) in
+    let p = changes K D.divides_by s c.args.output.now c.args.call.now _ w.is (λ over. call.multiplied K s w.r w.p w.q) w.r (λ over. refl) (λ over. refl) refl c.multiply.result told.result (state c.multiply.new.self) (stops c.multiply.result told.result c.in_err-multiply-in-Multiply.field-0.0 c.in_err-multiply-in-Multiply.was told.ensures.1) (λ over by. c.multiply.ensures.answer) (λ over by. c.multiply.ensures.leaves) in
     record { answer = p.answer; leaves = p.leaves; output = p.output }
 
 pub returns-in_err-divide-in-Divide : goal.returns-in_err-divide-in-Divide
@@ -56,7 +56,8 @@ returns-in_err-divide-in-Divide g c =
     let s = state c.args.sheet.now in
     let w = c.in-Divide in
     let told = c.from_residual-in_err-divide-in-Divide in
-    let p = changes K D.division_of D.divides_by s c.args.output.now c.args.call.now _ w.is (λ over. rows_of K over s (D.division_of w.division)) (D.division_of w.division).place (λ over. refl) (λ over. refl) refl c.divide.result told.result (state c.divide.new.sheet) (stops c.divide.result told.result c.in_err-divide-in-Divide.field-0.0 c.in_err-divide-in-Divide.was told.ensures.1) c.divide.ensures.answer c.divide.ensures.leaves in
+    let may = g.met.D.Divides.there w._leave in
+    let p = changes K D.divides_by s c.args.output.now c.args.call.now _ w.is (λ over. call.divided K over s w.r w.p w.q) w.r (λ over. refl) (λ over. refl) refl c.divide.result told.result (state c.divide.new.sheet) (stops c.divide.result told.result c.in_err-divide-in-Divide.field-0.0 c.in_err-divide-in-Divide.was told.ensures.1) (λ over by. c.divide.ensures.answer over by ∙ ap (λ b. answered (rows_of K over b s w.r w.p w.q)) may) (λ over by. c.divide.ensures.leaves over by ∙ ap (λ b. kept s w.r (rows_of K over b s w.r w.p w.q)) may) in
     record { answer = p.answer; leaves = p.leaves; output = p.output }
 
 pub returns-in_err-differentiate-in-Differentiate : goal.returns-in_err-differentiate-in-Differentiate
@@ -66,7 +67,7 @@ returns-in_err-differentiate-in-Differentiate g c =
     let s = state c.args.sheet.now in
     let w = c.in-Differentiate in
     let told = c.from_residual-in_err-differentiate-in-Differentiate in
-    let p = changes K D.division_of D.divides_by s c.args.output.now c.args.call.now _ w.is (λ over. call.differentiated K s w.r w.p w.v) w.r (λ over. refl) (λ over. refl) refl c.differentiate.result told.result (state c.differentiate.new.self) (stops c.differentiate.result told.result c.in_err-differentiate-in-Differentiate.field-0.0 c.in_err-differentiate-in-Differentiate.was told.ensures.1) (λ over by. c.differentiate.ensures.answer) (λ over by. c.differentiate.ensures.leaves) in
+    let p = changes K D.divides_by s c.args.output.now c.args.call.now _ w.is (λ over. call.differentiated K s w.r w.p w.v) w.r (λ over. refl) (λ over. refl) refl c.differentiate.result told.result (state c.differentiate.new.self) (stops c.differentiate.result told.result c.in_err-differentiate-in-Differentiate.field-0.0 c.in_err-differentiate-in-Differentiate.was told.ensures.1) (λ over by. c.differentiate.ensures.answer) (λ over by. c.differentiate.ensures.leaves) in
     record { answer = p.answer; leaves = p.leaves; output = p.output }
 
 pub returns-in_err-substitute-in-Substitute : goal.returns-in_err-substitute-in-Substitute
@@ -76,7 +77,7 @@ returns-in_err-substitute-in-Substitute g c =
     let s = state c.args.sheet.now in
     let w = c.in-Substitute in
     let told = c.from_residual-in_err-substitute-in-Substitute in
-    let p = changes K D.division_of D.divides_by s c.args.output.now c.args.call.now _ w.is (λ over. call.substituted K s w.r w.p w.q w.v) w.r (λ over. refl) (λ over. refl) refl c.substitute.result told.result (state c.substitute.new.self) (stops c.substitute.result told.result c.in_err-substitute-in-Substitute.field-0.0 c.in_err-substitute-in-Substitute.was told.ensures.1) (λ over by. c.substitute.ensures.answer) (λ over by. c.substitute.ensures.leaves) in
+    let p = changes K D.divides_by s c.args.output.now c.args.call.now _ w.is (λ over. call.substituted K s w.r w.p w.q w.v) w.r (λ over. refl) (λ over. refl) refl c.substitute.result told.result (state c.substitute.new.self) (stops c.substitute.result told.result c.in_err-substitute-in-Substitute.field-0.0 c.in_err-substitute-in-Substitute.was told.ensures.1) (λ over by. c.substitute.ensures.answer) (λ over by. c.substitute.ensures.leaves) in
     record { answer = p.answer; leaves = p.leaves; output = p.output }
 
 pub returns-in_err-multiply_truncated-in-MultiplyTruncate : goal.returns-in_err-multiply_truncated-in-MultiplyTruncate
@@ -86,7 +87,7 @@ returns-in_err-multiply_truncated-in-MultiplyTruncate g c =
     let s = state c.args.sheet.now in
     let w = c.in-MultiplyTruncate in
     let told = c.from_residual-in_err-multiply_truncated-in-MultiplyTruncate in
-    let p = changes K D.division_of D.divides_by s c.args.output.now c.args.call.now _ w.is (λ over. call.multiplied_truncated K s w.r w.p w.q w.k w.n) w.r (λ over. refl) (λ over. refl) refl c.multiply_truncated.result told.result (state c.multiply_truncated.new.self) (stops c.multiply_truncated.result told.result c.in_err-multiply_truncated-in-MultiplyTruncate.field-0.0 c.in_err-multiply_truncated-in-MultiplyTruncate.was told.ensures.1) (λ over by. c.multiply_truncated.ensures.answer) (λ over by. c.multiply_truncated.ensures.leaves) in
+    let p = changes K D.divides_by s c.args.output.now c.args.call.now _ w.is (λ over. call.multiplied_truncated K s w.r w.p w.q w.k w.n) w.r (λ over. refl) (λ over. refl) refl c.multiply_truncated.result told.result (state c.multiply_truncated.new.self) (stops c.multiply_truncated.result told.result c.in_err-multiply_truncated-in-MultiplyTruncate.field-0.0 c.in_err-multiply_truncated-in-MultiplyTruncate.was told.ensures.1) (λ over by. c.multiply_truncated.ensures.answer) (λ over by. c.multiply_truncated.ensures.leaves) in
     record { answer = p.answer; leaves = p.leaves; output = p.output }
 
 pub returns-in_err-constant-in-Constant : goal.returns-in_err-constant-in-Constant
@@ -97,7 +98,7 @@ returns-in_err-constant-in-Constant g c =
     let w = c.in-Constant in
     let same = figures_back K s w.r w.a w.b (search rules) (search rules) in
     let told = c.from_residual-in_err-constant-in-Constant in
-    let p = changes K D.division_of D.divides_by s c.args.output.now c.args.call.now _ w.is (λ over. call.constant K s w.r w.a w.b) w.r (λ over. refl) (λ over. refl) refl c.constant.result told.result (state c.constant.new.self) (stops c.constant.result told.result c.in_err-constant-in-Constant.field-0.0 c.in_err-constant-in-Constant.was told.ensures.1) (λ over by. c.constant.ensures.answer ∙ ap answered same) (λ over by. c.constant.ensures.leaves ∙ ap (kept s w.r) same) in
+    let p = changes K D.divides_by s c.args.output.now c.args.call.now _ w.is (λ over. call.constant K s w.r w.a w.b) w.r (λ over. refl) (λ over. refl) refl c.constant.result told.result (state c.constant.new.self) (stops c.constant.result told.result c.in_err-constant-in-Constant.field-0.0 c.in_err-constant-in-Constant.was told.ensures.1) (λ over by. c.constant.ensures.answer ∙ ap answered same) (λ over by. c.constant.ensures.leaves ∙ ap (kept s w.r) same) in
     record { answer = p.answer; leaves = p.leaves; output = p.output }
 
 pub returns-in_err-truncate-in-Truncate : goal.returns-in_err-truncate-in-Truncate
@@ -107,7 +108,7 @@ returns-in_err-truncate-in-Truncate g c =
     let s = state c.args.sheet.now in
     let w = c.in-Truncate in
     let told = c.from_residual-in_err-truncate-in-Truncate in
-    let p = changes K D.division_of D.divides_by s c.args.output.now c.args.call.now _ w.is (λ over. call.truncated s w.r w.p w.k w.n) w.r (λ over. refl) (λ over. refl) refl c.truncate.result told.result (state c.truncate.new.self) (stops c.truncate.result told.result c.in_err-truncate-in-Truncate.field-0.0 c.in_err-truncate-in-Truncate.was told.ensures.1) (λ over by. c.truncate.ensures.answer) (λ over by. c.truncate.ensures.leaves) in
+    let p = changes K D.divides_by s c.args.output.now c.args.call.now _ w.is (λ over. call.truncated s w.r w.p w.k w.n) w.r (λ over. refl) (λ over. refl) refl c.truncate.result told.result (state c.truncate.new.self) (stops c.truncate.result told.result c.in_err-truncate-in-Truncate.field-0.0 c.in_err-truncate-in-Truncate.was told.ensures.1) (λ over by. c.truncate.ensures.answer) (λ over by. c.truncate.ensures.leaves) in
     record { answer = p.answer; leaves = p.leaves; output = p.output }
 
 pub returns : goal.returns
@@ -115,8 +116,8 @@ returns g c =
     let K = g.K.Ring.kind in
     let D = g.D.Divides in
     let s = state c.args.sheet.now in
-    let Does = λ (new : State _). Performed K D.division_of D.divides_by s c.args.output.now c.args.call.now (Ok Done) new c.args.output.now in
-    let by = changes K D.division_of D.divides_by s c.args.output.now c.args.call.now in
+    let Does = λ (new : State _). Performed K D.divides_by s c.args.output.now c.args.call.now (Ok Done) new c.args.output.now in
+    let by = changes K D.divides_by s c.args.output.now c.args.call.now in
     let p : Does (state c.match-call.sheet) = elim c.match-call.branch [
       | in-Constant+in_ok-constant-in-Constant w ↦ (
           let same = figures_back K s w.in-Constant.r w.in-Constant.a w.in-Constant.b (search rules) (search rules) in
@@ -127,7 +128,12 @@ returns g c =
       | in-Add+in_ok-add-in-Add w ↦ subst Does (sym (ap state w.sheet-is)) (by _ w.in-Add.is (λ over. call.added K s w.in-Add.r w.in-Add.p w.in-Add.q) w.in-Add.r (λ over. refl) (λ over. refl) refl w.add.result (Ok Done) (state w.add.new.self) (does w.add.result w.in_ok-add-in-Add.was) (λ over by. w.add.ensures.answer) (λ over by. w.add.ensures.leaves))
       | in-Subtract+in_ok-subtract-in-Subtract w ↦ subst Does (sym (ap state w.sheet-is)) (by _ w.in-Subtract.is (λ over. call.subtracted K s w.in-Subtract.r w.in-Subtract.p w.in-Subtract.q) w.in-Subtract.r (λ over. refl) (λ over. refl) refl w.subtract.result (Ok Done) (state w.subtract.new.self) (does w.subtract.result w.in_ok-subtract-in-Subtract.was) (λ over by. w.subtract.ensures.answer) (λ over by. w.subtract.ensures.leaves))
       | in-Multiply+in_ok-multiply-in-Multiply w ↦ subst Does (sym (ap state w.sheet-is)) (by _ w.in-Multiply.is (λ over. call.multiplied K s w.in-Multiply.r w.in-Multiply.p w.in-Multiply.q) w.in-Multiply.r (λ over. refl) (λ over. refl) refl w.multiply.result (Ok Done) (state w.multiply.new.self) (does w.multiply.result w.in_ok-multiply-in-Multiply.was) (λ over by. w.multiply.ensures.answer) (λ over by. w.multiply.ensures.leaves))
-      | in-Divide+in_ok-divide-in-Divide w ↦ subst Does (sym (ap state w.sheet-is)) (by _ w.in-Divide.is (λ over. rows_of K over s (D.division_of w.in-Divide.division)) (D.division_of w.in-Divide.division).place (λ over. refl) (λ over. refl) refl w.divide.result (Ok Done) (state w.divide.new.sheet) (does w.divide.result w.in_ok-divide-in-Divide.was) w.divide.ensures.answer w.divide.ensures.leaves)
+      | in-Divide+in_ok-divide-in-Divide w ↦ (
+          let r = w.in-Divide.r in
+          let p = w.in-Divide.p in
+          let q = w.in-Divide.q in
+          let may = g.met.D.Divides.there w.in-Divide._leave in
+          subst Does (sym (ap state w.sheet-is)) (by _ w.in-Divide.is (λ over. call.divided K over s r p q) r (λ over. refl) (λ over. refl) refl w.divide.result (Ok Done) (state w.divide.new.sheet) (does w.divide.result w.in_ok-divide-in-Divide.was) (λ over by. w.divide.ensures.answer over by ∙ ap (λ b. answered (rows_of K over b s r p q)) may) (λ over by. w.divide.ensures.leaves over by ∙ ap (λ b. kept s r (rows_of K over b s r p q)) may)))
       | in-Differentiate+in_ok-differentiate-in-Differentiate w ↦ subst Does (sym (ap state w.sheet-is)) (by _ w.in-Differentiate.is (λ over. call.differentiated K s w.in-Differentiate.r w.in-Differentiate.p w.in-Differentiate.v) w.in-Differentiate.r (λ over. refl) (λ over. refl) refl w.differentiate.result (Ok Done) (state w.differentiate.new.self) (does w.differentiate.result w.in_ok-differentiate-in-Differentiate.was) (λ over by. w.differentiate.ensures.answer) (λ over by. w.differentiate.ensures.leaves))
       | in-Substitute+in_ok-substitute-in-Substitute w ↦ subst Does (sym (ap state w.sheet-is)) (by _ w.in-Substitute.is (λ over. call.substituted K s w.in-Substitute.r w.in-Substitute.p w.in-Substitute.q w.in-Substitute.v) w.in-Substitute.r (λ over. refl) (λ over. refl) refl w.substitute.result (Ok Done) (state w.substitute.new.self) (does w.substitute.result w.in_ok-substitute-in-Substitute.was) (λ over by. w.substitute.ensures.answer) (λ over by. w.substitute.ensures.leaves))
       | in-Truncate+in_ok-truncate-in-Truncate w ↦ subst Does (sym (ap state w.sheet-is)) (by _ w.in-Truncate.is (λ over. call.truncated s w.in-Truncate.r w.in-Truncate.p w.in-Truncate.k w.in-Truncate.n) w.in-Truncate.r (λ over. refl) (λ over. refl) refl w.truncate.result (Ok Done) (state w.truncate.new.self) (does w.truncate.result w.in_ok-truncate-in-Truncate.was) (λ over by. w.truncate.ensures.answer) (λ over by. w.truncate.ensures.leaves))
