@@ -63,11 +63,14 @@ fn two<'a, F: FnOnce(usize, usize) -> Plain<'a>>(
     Ok(call(words.read()?, words.read()?))
 }
 
-// What is made of the next three numbers.
-fn three<T, F: FnOnce(usize, usize, usize) -> T>(words: &mut Words, made: F) -> Result<T, Fault>
-    requires { F.IsAlwaysCallable made }
+// A call on the next three numbers.
+fn three<'a, F: FnOnce(usize, usize, usize) -> Plain<'a>>(
+    words: &mut Words,
+    call: F,
+) -> Result<Plain<'a>, Fault>
+    requires { F.IsAlwaysCallable call }
 {
-    Ok(made(words.read()?, words.read()?, words.read()?))
+    Ok(call(words.read()?, words.read()?, words.read()?))
 }
 
 // A call on the next five numbers.
@@ -134,7 +137,7 @@ fn request_of<'a>(
         b"open" => Ok(Request::Open(words.read()?)),
         b"read" => read(words, cards),
         b"write" => Ok(Request::Write(words.read()?, words.read_if_any()?)),
-        b"divide" => three(words, Request::Divide),
+        b"divide" => Ok(Request::Divide(words.read()?, words.read()?, words.read()?)),
         _ => Ok(Request::Call(call_of(name, words)?)),
     }
 }
