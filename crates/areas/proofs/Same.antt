@@ -14,9 +14,9 @@ use Rattle.rows.specs.Lists.{put}
 use Rattle.rows.specs.Tables.{blank}
 use Rattle.rows.specs.declared.Row.{Row}
 use Rattle.rows.proofs.Writing.{put_is}
-use Rattle.areas.specs.Areas.{capacity}
+use Rattle.areas.specs.Shares.{capacity, room_of, count_of, Counted, Tidy}
 use Rattle.areas.proofs.Shares.{area_end, areas_apart}
-use Rattle.areas.proofs.Storing.{room_of, count_of, contents-of, CountedOf, TidyOf}
+use Rattle.areas.proofs.Storing.{contents-of}
 
 pub find_area : (m c i : ℕ) → i < m * c → (a : ℕ) × (a < m) × (a * c ≤ i) × (i < a * c + c)
 find_area zero c i h = absurd (omega arith)
@@ -24,12 +24,12 @@ find_area (suc m) c i h =
     let s = suc-mul m c in
     ⊎_elim (λ l. let r = find_area m c i l in (r.0, omega (arith, r.1), r.2, r.3)) (λ g. (m, omega arith, g, omega arith)) (cases_lt i (m * c))
 
-module _ {V : Type 0} (K : Kind V) (rows : List (Row V)) (counts : List ℕ) (tidy : TidyOf K rows counts) where
+module _ {V : Type 0} (K : Kind V) (rows : List (Row V)) (counts : List ℕ) (tidy : Tidy K rows counts) where
   abbrev share : ℕ
   share = room_of rows
 
   -- a row that is counted lies in its own area
-  counted_in : (a i : ℕ) → a * share ≤ i → i < a * share + share → CountedOf rows counts i → i < a * share + count_of rows counts a
+  counted_in : (a i : ℕ) → a * share ≤ i → i < a * share + share → Counted rows counts i → i < a * share + count_of rows counts a
   counted_in a i low high (o, ho, lo, hi) =
       ⊎_elim (λ e. let m = ap (λ n. n * share) e in let d = ap (count_of rows counts) e in omega arith)
       (⊎_elim (λ l. absurd (let p = areas_apart o a share l in omega arith)) (λ l. absurd (let p = areas_apart a o share l in omega arith)))
@@ -50,7 +50,7 @@ module _ {V : Type 0} (K : Kind V) (rows : List (Row V)) (counts : List ℕ) (ti
   row_past i high fits = tidy i fits (λ d. let p = areas_apart d.0 12 share d.1 in let l = d.3 in omega arith)
 
 -- two areas on as many rows, both tidy
-module _ {V : Type 0} (K : Kind V) (rows new : List (Row V)) (counts cs : List ℕ) (long : length new ≡ length rows) (tidy : TidyOf K rows counts) (tidy' : TidyOf K new cs) where
+module _ {V : Type 0} (K : Kind V) (rows new : List (Row V)) (counts cs : List ℕ) (long : length new ≡ length rows) (tidy : Tidy K rows counts) (tidy' : Tidy K new cs) where
   abbrev c : ℕ
   c = room_of rows
 
@@ -142,7 +142,7 @@ module _ {V : Type 0} (K : Kind V) (rows new : List (Row V)) (counts cs : List �
         (λ g. get_or_past new k d (omega arith) ∙ sym (get_or_past rows k d g))
         (cases_lt k (length rows)))
 
-pub cleared_rows : {V : Type 0} (K : Kind V) (rows : List (Row V)) (counts : List ℕ) (a n : ℕ) → TidyOf K rows counts → a < 12 → (contents-of rows counts).tables a ≡ [] → n ≤ room_of rows → rows ≡ put rows (a * room_of rows) (replicate n (blank K))
+pub cleared_rows : {V : Type 0} (K : Kind V) (rows : List (Row V)) (counts : List ℕ) (a n : ℕ) → Tidy K rows counts → a < 12 → (contents-of rows counts).tables a ≡ [] → n ≤ room_of rows → rows ≡ put rows (a * room_of rows) (replicate n (blank K))
 cleared_rows K rows counts a n tidy inside empty few =
     let c = room_of rows in
     let l = length-replicate n (blank K) in
@@ -153,7 +153,7 @@ cleared_rows K rows counts a n tidy inside empty few =
     ∙ ap (λ xs. get_or xs (a * c + k - a * c) (blank K)) empty ∙ sym (get_or-replicate n k (blank K) d (omega arith)))
     (λ k d h. refl)
 
-pub fresh_rows : {V : Type 0} (K : Kind V) (rows : List (Row V)) (counts : List ℕ) → TidyOf K rows counts → ((a : ℕ) → a < 12 → (contents-of rows counts).tables a ≡ []) → rows ≡ replicate (length rows) (blank K)
+pub fresh_rows : {V : Type 0} (K : Kind V) (rows : List (Row V)) (counts : List ℕ) → Tidy K rows counts → ((a : ℕ) → a < 12 → (contents-of rows counts).tables a ≡ []) → rows ≡ replicate (length rows) (blank K)
 fresh_rows K rows counts tidy empty =
     let c = room_of rows in
     let n = length-replicate (length rows) (blank K) in

@@ -3,7 +3,7 @@
 --     area_end          an area ends where the next one starts, at the latest
 --     areas_apart       so two areas have no row in common
 use Rattle.std.proofs.Common.{ℕ, ◌+◌, ◌*◌, ◌<◌, ◌≤◌, mul-le-mul_right, suc-mul, arith}
-use Rattle.areas.specs.Areas.{capacity}
+use Rattle.areas.specs.Shares.{capacity}
 
 pub capacity-fits : (n : ℕ) → 12 * capacity n ≤ n
 capacity-fits n = omega arith

@@ -1,7 +1,8 @@
 -- What is held once the rows of one area have been written. Assumes nothing.
---     contents-of, TidyOf     what areas with these rows and counts hold, and that they are tidy
+--     contents-of             what areas with these rows and counts hold
 --     storing-none            storing where there is no area changes nothing
 --     storing-same            nor does storing what is there
+--     storing-again           storing in an area twice
 --     no_table                a table is empty where there is no area
 --     opened, opened-tidy     what areas hold that were opened
 --     stored, stored-tidy     rows and then blanks at the start of an area, with its count set to the rows
@@ -13,23 +14,12 @@ use Rattle.rows.specs.Lists.{put, part, Clear}
 use Rattle.rows.specs.Tables.{blank}
 use Rattle.rows.specs.declared.Row.{Row}
 use Rattle.rows.proofs.Writing.{length_put, part-put, part-put-apart, get_or-put_before, get_or-put_in, get_or-put_after}
-use Rattle.areas.specs.Areas.{Contents, capacity, storing, fresh}
+use Rattle.areas.specs.Shares.{capacity, room_of, count_of, Counted, Tidy}
+use Rattle.areas.specs.Areas.{Contents, storing, fresh}
 use Rattle.areas.proofs.Shares.{area_end, areas_apart}
-
-abbrev pub room_of : {X : Type 0} → List X → ℕ
-room_of rows = capacity (length rows)
-
-abbrev pub count_of : {X : Type 0} → List X → List ℕ → ℕ → ℕ
-count_of rows counts a = min (get_or counts a 0) (room_of rows)
 
 abbrev pub contents-of : {V : Type 0} → List (Row V) → List ℕ → Contents V
 contents-of rows counts = record { lent = length rows; room = room_of rows; tables = λ a. part (a * room_of rows) (count_of rows counts a) rows }
-
-abbrev pub CountedOf : {X : Type 0} → List X → List ℕ → ℕ → Type 0
-CountedOf rows counts i = (a : ℕ) × (a < 12) × (a * room_of rows ≤ i) × (i < a * room_of rows + count_of rows counts a)
-
-abbrev pub TidyOf : {V : Type 0} → Kind V → List (Row V) → List ℕ → Type 0
-TidyOf K rows counts = (i : ℕ) → i < length rows → (CountedOf rows counts i → ⊥) → get_or rows i (blank K) ≡ blank K
 
 -- two different areas have no row in common
 pub apart : (a b c m n : ℕ) → (a ≡ b → ⊥) → m ≤ c → n ≤ c → Clear (a * c) m (b * c) n
@@ -41,7 +31,7 @@ module _ {X : Type 0} (o a : ℕ) (x y : X) where
   abbrev choice : X
   choice = cond (eqb o a && ltb a 12) x y
 
-  choice_here : a < 12 → o ≡ a → choice ≡ x
+  pub choice_here : a < 12 → o ≡ a → choice ≡ x
   choice_here h e = cond-true _ x y (and_from _ _ (eq-eqb o a e) (lt-ltb a 12 h))
 
   choice_other : (o ≡ a → ⊥) → choice ≡ y
@@ -58,6 +48,13 @@ storing-same c a = λ i. record {
   lent = c.lent;
   room = c.room;
   tables = λ o. sym (cond_both (eqb o a && ltb a 12) (c.tables a) (c.tables o) (λ x. x ≡ c.tables o) (λ t. ap c.tables (sym (eqb-true o a (and_parts _ _ t).0))) (λ t. refl)) i;
+}
+
+pub storing-again : {V : Type 0} (c : Contents V) (a : ℕ) (ys xs : List (Row V)) → storing (storing c a ys) a xs ≡ storing c a xs
+storing-again c a ys xs = λ i. record {
+  lent = c.lent;
+  room = c.room;
+  tables = λ o. cond_both (eqb o a && ltb a 12) xs (c.tables o) (λ x. cond (eqb o a && ltb a 12) xs (cond (eqb o a && ltb a 12) ys (c.tables o)) ≡ x) (λ t. cond-true _ _ _ t) (λ t. cond-false _ _ _ t ∙ cond-false _ _ _ t) i;
 }
 
 pub no_table : {V : Type 0} (rows : List (Row V)) (counts : List ℕ) (a : ℕ) → length counts ≤ a → (contents-of rows counts).tables a ≡ []
@@ -79,7 +76,7 @@ module _ {V : Type 0} (K : Kind V) (n : ℕ) (rows : List (Row V)) (is : rows �
       let l = ap length is ∙ length-replicate n (blank K) in
       λ i. record { lent = l i; room = capacity (l i); tables = λ a. ap (λ m. part (a * room_of rows) m rows) (opened-count a) i }
 
-  pub opened-tidy : TidyOf K rows zeros
+  pub opened-tidy : Tidy K rows zeros
   opened-tidy i h out = let l = ap length is ∙ length-replicate n (blank K) in ap (λ r. get_or r i (blank K)) is ∙ get_or-replicate n i (blank K) (blank K) (omega arith)
 
 -- ---- rows that were written at the start of an area
@@ -149,7 +146,7 @@ module _ {V : Type 0} (K : Kind V) (rows : List (Row V)) (counts : List ℕ) (a 
         (cases_lt i (a * c + length xs))
 
     -- what was counted outside what was written is so still
-    counted_out : (i : ℕ) → (i < a * c) ⊎ (a * c + length written ≤ i) → CountedOf rows counts i → NewlyCounted i
+    counted_out : (i : ℕ) → (i < a * c) ⊎ (a * c + length written ≤ i) → Counted rows counts i → NewlyCounted i
     unfolding NewlyCounted
     counted_out i out (o, ho, low, high) =
         let w = long in
@@ -157,18 +154,18 @@ module _ {V : Type 0} (K : Kind V) (rows : List (Row V)) (counts : List ℕ) (a 
         let t = there o ne in
         (o, ho, low, omega arith)
 
-    tidy_out : TidyOf K rows counts → (i : ℕ) → i < length rows → (i < a * c) ⊎ (a * c + length written ≤ i) → (NewlyCounted i → ⊥) → get_or new_rows i (blank K) ≡ blank K
+    tidy_out : Tidy K rows counts → (i : ℕ) → i < length rows → (i < a * c) ⊎ (a * c + length written ≤ i) → (NewlyCounted i → ⊥) → get_or new_rows i (blank K) ≡ blank K
     tidy_out tidy i h beside out = ⊎_elim (get_or-put_before rows (a * c) written within i (blank K)) (get_or-put_after rows (a * c) written within i (blank K)) beside ∙ tidy i h (λ d. out (counted_out i beside d))
 
-    all_tidy : TidyOf K rows counts → (i : ℕ) → i < length rows → (NewlyCounted i → ⊥) → get_or new_rows i (blank K) ≡ blank K
+    all_tidy : Tidy K rows counts → (i : ℕ) → i < length rows → (NewlyCounted i → ⊥) → get_or new_rows i (blank K) ≡ blank K
     all_tidy tidy i h =
         ⊎_elim (λ l. tidy_out tidy i h (inl l))
         (λ g. ⊎_elim (tidy_in i g) (λ l. tidy_out tidy i h (inr l)) (cases_lt i (a * c + length written)))
         (cases_lt i (a * c))
 
-    pub stored-tidy : (new : List (Row V)) (cs : List ℕ) → new ≡ new_rows → cs ≡ new_counts → TidyOf K rows counts → TidyOf K new cs
+    pub stored-tidy : (new : List (Row V)) (cs : List ℕ) → new ≡ new_rows → cs ≡ new_counts → Tidy K rows counts → Tidy K new cs
     unfolding NewlyCounted
     stored-tidy new cs e f tidy =
         let s = same_length in
-        subst₂ (TidyOf K) (sym e) (sym f)
+        subst₂ (Tidy K) (sym e) (sym f)
         (λ i h. subst (λ r. (((o : ℕ) × (o < 12) × (o * r ≤ i) × (i < o * r + min (get_or new_counts o 0) r)) → ⊥) → get_or new_rows i (blank K) ≡ blank K) (sym same-room) (all_tidy tidy i (omega arith)))

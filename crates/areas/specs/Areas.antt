@@ -1,5 +1,4 @@
 -- Twelve tables in lent rows: each area is the same share of the rows, and its table is the first of its rows, as many as its count says.
---     capacity n         the rows of one area, where n rows are lent
 --     Contents V         what areas hold: how many rows are lent, the room of each area, and its table
 --     contents s         what the areas s hold
 --     storing c a xs     c with the table xs in the area a; c itself if there is no such area
@@ -11,33 +10,32 @@
 --     pushed c a x       the table in the area a with the row x after it, or the refusal: no such area, no room
 --     added K c t a b    the sum of the tables in a and b, to be left in t, or the refusal: areas that are not apart, a coefficient that does not fit, too many rows
 --     scaling K c t a b y    the table in a plus that in b times the row y, to be left in t, or the refusal
---     Counted s i        the lent row of index i is a row of some table
---     Tidy K s           every lent row that is no row of a table is blank
-use Rattle.std.specs.Prelude.{◌≡◌, ℕ, ◌+◌, ◌*◌, ◌/◌, ◌<◌, ◌≤◌, min, Bool, cond, not, ◌&&◌, List, [], ◌∷◌, ◌++◌, length, Ok, Err, Result, ◌==◌, nat_lt, slice_index, slice_index_or}
+--     lent_room s        the rows of one area of s
+--     count s a          how many rows the table in the area a has
+use Rattle.std.specs.Prelude.{ℕ, ◌*◌, Bool, cond, not, ◌&&◌, List, [], ◌∷◌, ◌++◌, length, Ok, Err, Result, ◌==◌, nat_lt}
 use Rattle.refusals.specs.declared.Refusal.{Refusal}
 use Rattle.refusals.specs.declared.Refusal.TheVariants.{Place}
 use Rattle.rings.specs.Kinds.{Kind}
+use Rattle.rings.specs.declared.ring.Ring.{Ghosts}
 use Rattle.rows.specs.Lists.{part}
-use Rattle.rows.specs.Tables.{blank, sum, limited}
+use Rattle.rows.specs.Tables.{sum, limited}
 use Rattle.rows.specs.Products.{joined}
 use Rattle.rows.specs.declared.Row.{Row}
+use Rattle.areas.specs.Shares.{capacity, room_of, count_of}
 use Rattle.areas.specs.declared.twelve.Areas.{Areas}
-
-abbrev pub capacity : ℕ → ℕ
-capacity n = min (n / 12) 4096
 
 pub record Contents (V : Type 0) : Type 0 where
   pub lent : ℕ
   pub room : ℕ
   pub tables : ℕ → List (Row V)
 
-abbrev pub lent_room : {V : Type 0} → Areas V → ℕ
-lent_room s = capacity (length s.rows.now)
+abbrev pub lent_room : {V : Type 0} {G : Ghosts V} → Areas V G → ℕ
+lent_room s = room_of s.rows.now
 
-abbrev pub count : {V : Type 0} → Areas V → ℕ → ℕ
-count s a = min (slice_index s.counts a) (lent_room s)
+abbrev pub count : {V : Type 0} {G : Ghosts V} → Areas V G → ℕ → ℕ
+count s a = count_of s.rows.now s.counts a
 
-abbrev pub contents : {V : Type 0} → Areas V → Contents V
+abbrev pub contents : {V : Type 0} {G : Ghosts V} → Areas V G → Contents V
 contents s = record { lent = length s.rows.now; room = lent_room s; tables = λ a. part (a * lent_room s) (count s a) s.rows.now }
 
 abbrev pub storing : {V : Type 0} → Contents V → ℕ → List (Row V) → Contents V
@@ -69,9 +67,3 @@ added K c t a b = cond (apart t a b) (limited c.room (sum K (c.tables a) (c.tabl
 
 abbrev pub scaling : {V : Type 0} → Kind V → Contents V → ℕ → ℕ → ℕ → Row V → Result (List (Row V)) Refusal
 scaling K c t a b y = cond (apart t a b) (limited c.room (joined K (c.tables a) y (c.tables b))) (Err Place)
-
-abbrev pub Counted : {V : Type 0} → Areas V → ℕ → Type 0
-Counted s i = (a : ℕ) × (a < 12) × (a * lent_room s ≤ i) × (i < a * lent_room s + count s a)
-
-abbrev pub Tidy : {V : Type 0} → Kind V → Areas V → Type 0
-Tidy K s = (i : ℕ) → i < length s.rows.now → (Counted s i → ⊥) → slice_index_or s.rows.now i (blank K) ≡ blank K

@@ -1,6 +1,6 @@
 // Sums of tables.
 ghost use Rattle.std.specs.Prelude.{◌≡◌};
-ghost use Rattle.areas.specs.Areas.{contents, storing, rows_of, answered, added, scaling, Tidy};
+ghost use Rattle.areas.specs.Areas.{contents, storing, rows_of, answered, added, scaling};
 
 use crate::twelve::Areas;
 use refusals::Refusal;
@@ -12,7 +12,6 @@ impl<K: Ring> Areas<'_, K> {
     pub fn add(&mut self, to: usize, left: usize, right: usize) -> Result<(), Refusal>
         ensures answer { result ≡ answered (added K.kind (contents self.old) to left right) }
         ensures leaves { contents self.new ≡ storing (contents self.old) to (rows_of (added K.kind (contents self.old) to left right)) }
-        ensures tidy { Tidy K.kind self.old → Tidy K.kind self.new }
     {
         self.combine(to, left, right, None)
     }
@@ -27,7 +26,6 @@ impl<K: Ring> Areas<'_, K> {
     ) -> Result<(), Refusal>
         ensures answer { result ≡ answered (scaling K.kind (contents self.old) to left right row) }
         ensures leaves { contents self.new ≡ storing (contents self.old) to (rows_of (scaling K.kind (contents self.old) to left right row)) }
-        ensures tidy { Tidy K.kind self.old → Tidy K.kind self.new }
     {
         self.combine(to, left, right, Some(row))
     }

@@ -4,10 +4,11 @@ ghost use Rattle.areas.specs.Areas.{contents, lent_room, count};
 
 use crate::open::capacity_of;
 use crate::twelve::{AREAS, Areas};
+use rings::Ring;
 use rows::Row;
 use std::ops::Range;
 
-impl<K> Areas<'_, K> {
+impl<K: Ring> Areas<'_, K> {
     // The rows of one area: the most that a table can have.
     pub fn room(&self) -> usize
         ensures { result ≡ (contents self.now).room }

@@ -1,6 +1,6 @@
 // Emptying an area.
 ghost use Rattle.std.specs.Prelude.{◌≡◌, []};
-ghost use Rattle.areas.specs.Areas.{contents, storing, Tidy};
+ghost use Rattle.areas.specs.Areas.{contents, storing};
 
 use crate::twelve::{AREAS, Areas};
 use rings::Ring;
@@ -9,10 +9,9 @@ impl<K: Ring> Areas<'_, K> {
     // Makes the table in an area empty, if there is such an area.
     pub fn clear(&mut self, area: usize)
         ensures leaves { contents self.new ≡ storing (contents self.old) area [] }
-        ensures tidy { Tidy K.kind self.old → Tidy K.kind self.new }
     {
         if area < AREAS {
-            self.settle(area, 0, self.count(area));
+            self.settle(area, 0);
         }
     }
 }

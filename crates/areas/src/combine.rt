@@ -2,7 +2,7 @@
 ghost use Rattle.std.specs.Prelude.{◌≡◌, ◌+◌, ◌-◌, ◌≤◌, List, ◌++◌, length, None as Nothing};
 ghost use Rattle.rows.specs.Tables.{limited, counted};
 ghost use Rattle.rows.specs.declared.Row.{Row as RowOf};
-ghost use Rattle.areas.specs.Areas.{contents, storing, rows_of, answered, apart as apart_from, Tidy};
+ghost use Rattle.areas.specs.Areas.{contents, storing, rows_of, answered, apart as apart_from};
 ghost use Rattle.areas.specs.Merging.{spanned, giving, combined, IsBeside, Written};
 
 use crate::merge::merge_rows;
@@ -70,7 +70,6 @@ impl<K: Ring> Areas<'_, K> {
     ) -> Result<(), Refusal>
         ensures answer { result ≡ answered (combined K.kind (contents self.old) to left right factor) }
         ensures leaves { contents self.new ≡ storing (contents self.old) to (rows_of (combined K.kind (contents self.old) to left right factor)) }
-        ensures tidy { Tidy K.kind self.old → Tidy K.kind self.new }
     {
         if !apart(to, left, right) {
             self.clear(to);
@@ -82,8 +81,11 @@ impl<K: Ring> Areas<'_, K> {
         let first = self.span(left);
         let second = self.span(right);
         let merged = merge_spans(self.rows, at..at + room, first, second, factor);
+        let count = merged.unwrap_or(0);
+        // a refused merge has written somewhere in the area
         let used = if merged.is_ok() { old } else { room };
-        self.settle(to, merged.unwrap_or(0), used);
+        self.counts[to] = used.max(count);
+        self.settle(to, count);
         merged.map(|_| ())
     }
 }

