@@ -3,7 +3,6 @@
 --     lowered-key          the key of a row with a lower exponent
 --     chosen-rows, derived-rows     what is made of the rows is what the calls are to make
 --     table-room           a table has no more rows than an area
---     storing-again        what was stored in an area before is gone
 --     pushed-fits          a row is written where there is room for it
 --     Changing             what holds while the rows are worked: the rows so far, and what is left gives the result
 --     changing-none        before the first row
@@ -11,12 +10,13 @@
 --     changing-fits        there is room for it
 --     changing-refused, changing_all   the end, by a refusal or after the last row
 --     changing_made        what a call made whose rows were made so
-use Rattle.std.proofs.Common.{◌≡◌, ℕ, ◌+◌, ◌-◌, ◌*◌, ◌<◌, ◌≤◌, Bool, true, false, cond, ◌&&◌, eqb, ltb, List, [], ◌∷◌, ◌++◌, length, get_or, drop, Some, None, Ok, Err, Option, Result, sym, refl, ap, ◌∙◌, ⊎_elim, arith}
+use Rattle.std.proofs.Common.{◌≡◌, ℕ, ◌+◌, ◌-◌, ◌*◌, ◌<◌, ◌≤◌, Bool, cond, eqb, List, [], ◌∷◌, ◌++◌, length, get_or, drop, Some, None, Ok, Err, Option, Result, sym, refl, ap, ◌∙◌, ⊎_elim, arith}
 use Rattle.std.proofs.lemmas.List.{append-nil, append_assoc, length_push, length-take, at_drop_more, at_drop_all, get_or_past}
 use Rattle.std.proofs.lemmas.Bool.{cases_lt, cases_Bool, lt-ltb, le-ltb, cond-true, cond-false}
 use Rattle.refusals.specs.declared.Refusal.{Refusal}
 use Rattle.rings.specs.Members.{copies}
 use Rattle.rings.specs.Kinds.{Kind}
+use Rattle.rings.specs.declared.ring.Ring.{Ghosts}
 use Rattle.formats.specs.Exponents.{exponent, placed}
 use Rattle.formats.specs.Keys.{pack, unpack, replaced}
 use Rattle.formats.specs.declared.variable.Variable.{Variable}
@@ -26,7 +26,7 @@ use Rattle.algebra.proofs.Packing.{length_unpack, within-unpack}
 use Rattle.arithmetic.specs.Truncating.{chosen}
 use Rattle.arithmetic.specs.Deriving.{power_of, with_power, derived}
 use Rattle.arithmetic.proofs.Derived.{within_lower}
-use Rattle.areas.specs.Areas.{Contents, contents, lent_room, count, storing, pushed, kept as held, Tidy}
+use Rattle.areas.specs.Areas.{Contents, contents, lent_room, count, storing, pushed, kept as held}
 use Rattle.areas.specs.Merging.{found, prepended}
 use Rattle.areas.specs.declared.twelve.Areas.{Areas}
 use Rattle.sheets.specs.Changes.{row_derived, before, changed, Gives, Changes}
@@ -77,15 +77,8 @@ derived-rows K vs v (x ∷ xs) =
     (cases_Bool t)
 
 -- ---- tables
-pub table-room : {V : Type 0} (s : Areas V) (a : ℕ) → length ((contents s).tables a) ≤ (contents s).room
+pub table-room : {V : Type 0} {G : Ghosts V} (s : Areas V G) (a : ℕ) → length ((contents s).tables a) ≤ (contents s).room
 table-room s a = omega (arith, length-take (count s a) (drop (a * lent_room s) s.rows.now))
-
-cond_again : {X : Type 0} (t : Bool) (x y z : X) → cond t y (cond t x z) ≡ cond t y z
-cond_again true x y z = refl
-cond_again false x y z = refl
-
-pub storing-again : {V : Type 0} (c : Contents V) (a : ℕ) (xs ys : List (Row V)) → storing (storing c a xs) a ys ≡ storing c a ys
-storing-again c a xs ys = λ i. record { lent = c.lent; room = c.room; tables = λ o. cond_again (eqb o a && ltb a 12) xs ys (c.tables o) i }
 
 -- ---- row by row
 -- the rows so far before those of r
@@ -104,16 +97,16 @@ prefixed_more out x (Err e) = refl
 pub pushed-fits : {V : Type 0} (c : Contents V) (a : ℕ) (x : Row V) → a < 12 → length (c.tables a) < c.room → pushed c a x ≡ Ok (c.tables a ++ x ∷ [])
 pushed-fits c a x h fits = cond-true _ _ _ (lt-ltb a 12 h) ∙ cond-false _ _ _ (le-ltb c.room (length (c.tables a ++ x ∷ [])) (let l = length_push (c.tables a) x in omega arith))
 
-module _ {V : Type 0} (K : Kind V) (post : Row V → Result (Option (Row V)) Refusal → Type 0) (a : ℕ) (xs : List (Row V)) (s : Desk V) where
-  pub record Changing (t : Desk V) (i : ℕ) : Type 0 where
-    pub kept : Kept K (but a) s t
+module _ {V : Type 0} {G : Ghosts V} (post : Row V → Result (Option (Row V)) Refusal → Type 0) (a : ℕ) (xs : List (Row V)) (s : Desk V G) where
+  pub record Changing (t : Desk V G) (i : ℕ) : Type 0 where
+    pub kept : Kept (but a) s t
     pub few : length (table t a) ≤ i
     pub rest : (f : Row V → Result (Option (Row V)) Refusal) → Gives post f → prefixed (table t a) (changed f (drop i xs)) ≡ changed f xs
 
   pub changing-none : table s a ≡ [] → Changing s 0
-  changing-none e = record { kept = kept_same K (but a) s; few = omega (arith, ap length e); rest = λ f h. ap (λ l. prefixed l (changed f xs)) e ∙ prefixed_none (changed f xs) }
+  changing-none e = record { kept = kept_same (but a) s; few = omega (arith, ap length e); rest = λ f h. ap (λ l. prefixed l (changed f xs)) e ∙ prefixed_none (changed f xs) }
 
-  module _ (t : Desk V) (i : ℕ) (r : Changing t i) (more : i < length xs) (x : Row V) (is : x ≡ get_or xs i x) where
+  module _ (t : Desk V G) (i : ℕ) (r : Changing t i) (more : i < length xs) (x : Row V) (is : x ≡ get_or xs i x) where
     next : (o : Result (Option (Row V)) Refusal) → post x o → (f : Row V → Result (Option (Row V)) Refusal) → Gives post f → prefixed (table t a) (before o (changed f (drop (i + 1) xs))) ≡ changed f xs
     next o p f h =
         ap (λ z. prefixed (table t a) (before z (changed f (drop (i + 1) xs)))) (h x o p)
@@ -130,19 +123,19 @@ module _ {V : Type 0} (K : Kind V) (post : Row V → Result (Option (Row V)) Ref
       pub changing-fits : pushed (contents t.areas) a y ≡ Ok (table t a ++ y ∷ [])
       changing-fits = pushed-fits (contents t.areas) a y area (omega (arith, r.few, r.kept.room))
 
-      pub changing-some : (u : Desk V) → contents u.areas ≡ held (contents t.areas) a (pushed (contents t.areas) a y) → u.format ≡ t.format → (Tidy K t.areas → Tidy K u.areas) → Changing u (i + 1)
-      changing-some u leaves format tidy =
+      pub changing-some : (u : Desk V G) → contents u.areas ≡ held (contents t.areas) a (pushed (contents t.areas) a y) → u.format ≡ t.format → Changing u (i + 1)
+      changing-some u leaves format =
           let is_now : contents u.areas ≡ storing (contents t.areas) a (table t a ++ y ∷ []) = leaves ∙ ap (held (contents t.areas) a) changing-fits in
           let now : table u a ≡ table t a ++ y ∷ [] = ap (λ d. d.tables a) is_now ∙ table-there (contents t.areas) a (table t a ++ y ∷ []) area in
           record {
-            kept = kept-after K (but a) (but a) (but a) s t u (λ o h. (h, h)) r.kept (kept-stored K t u a (table t a ++ y ∷ []) is_now format tidy);
+            kept = kept-after (but a) (but a) (but a) s t u (λ o h. (h, h)) r.kept (kept-stored t u a (table t a ++ y ∷ []) is_now format);
             few = omega (arith, ap length now, length_push (table t a) y, r.few);
             rest = λ f h. ap (λ l. prefixed l (changed f (drop (i + 1) xs))) now ∙ sym (prefixed_more (table t a) y (changed f (drop (i + 1) xs))) ∙ next (Ok (Some y)) p f h;
           }
 
-  pub changing_all : (t : Desk V) (i : ℕ) → Changing t i → length xs ≤ i → Changes post xs (Ok (table t a))
+  pub changing_all : (t : Desk V G) (i : ℕ) → Changing t i → length xs ≤ i → Changes post xs (Ok (table t a))
   changing_all t i r all = λ f h. ap Ok (sym (append-nil (table t a))) ∙ ap (prefixed (table t a)) (sym (at_drop_all (changed f) xs i all)) ∙ r.rest f h
 
 -- what a call made whose rows were made so
-pub changing_made : {V : Type 0} (K : Kind V) (post : Row V → Result (Option (Row V)) Refusal → Type 0) (a : ℕ) → 8 ≤ a → (xs : List (Row V)) (s t : Desk V) (answer : Result (Unit {0}) Refusal) (made : Result ℕ Refusal) → Kept K (but a) s t → Changes post xs (made_of (contents t.areas) (made_in a answer)) → made ≡ made_in a answer → (f : Row V → Result (Option (Row V)) Refusal) → Gives post f → Making K 8 s t (changed f xs) made
-changing_made K post a low xs s t answer made k makes is f h = made_by K 8 s t (changed f xs) made (kept_fewer K (but a) (below 8) s t (λ o l e. omega arith) k) (ap (made_of (contents t.areas)) is ∙ makes f h)
+pub changing_made : {V : Type 0} {G : Ghosts V} (post : Row V → Result (Option (Row V)) Refusal → Type 0) (a : ℕ) → 8 ≤ a → (xs : List (Row V)) (s t : Desk V G) (answer : Result (Unit {0}) Refusal) (made : Result ℕ Refusal) → Kept (but a) s t → Changes post xs (made_of (contents t.areas) (made_in a answer)) → made ≡ made_in a answer → (f : Row V → Result (Option (Row V)) Refusal) → Gives post f → Making 8 s t (changed f xs) made
+changing_made post a low xs s t answer made k makes is f h = made_by 8 s t (changed f xs) made (kept_fewer (but a) (below 8) s t (λ o l e. omega arith) k) (ap (made_of (contents t.areas)) is ∙ makes f h)

@@ -15,10 +15,10 @@ use Rattle.rows.specs.declared.Row.{Row}
 use Rattle.rows.proofs.Sums.{sum_first}
 use Rattle.algebra.specs.Tables.{Falling}
 use Rattle.areas.specs.Areas.{Contents, storing, rows_of, answered, added, pushed, kept as held}
+use Rattle.areas.proofs.Storing.{storing-again}
 use Rattle.sheets.specs.States.{seen}
 use Rattle.sheets.specs.Running.{follows, below_last, entering}
 use Rattle.sheets.proofs.States.{seen-working}
-use Rattle.sheets.proofs.Changing.{storing-again}
 
 -- ---- the key of the last row
 follows-last : {V : Type 0} (k : ℕ) (x : Row V) (xs : List (Row V)) (d : Row V) → follows k x xs ≡ ltb k (get_or (x ∷ xs) (length xs) d).key

@@ -4,6 +4,7 @@
 --     gathered             where all of them were accepted, the area has them
 use Rattle.std.proofs.Common.{◌≡◌, ℕ, ◌+◌, Bool, leb, List, take, Ok, Err, Result, sym, ap, ◌∙◌}
 use Rattle.refusals.specs.declared.Refusal.{Refusal}
+use Rattle.rings.specs.declared.ring.Ring.{Ghosts}
 use Rattle.formats.specs.Exponents.{added, degree}
 use Rattle.formats.specs.Keys.{unpack}
 use Rattle.formats.specs.declared.variable.Variable.{Variable}
@@ -27,6 +28,6 @@ near-chosen vs k n d xs y e =
     λ i. chosen (λ x. each x i) xs
 
 -- where all of them were accepted, the area has them
-pub gathered : {V : Type 0} (t : Desk V) (answer : Result (Unit {0}) Refusal) (xs : List (Row V)) → made_of (contents t.areas) (made_in 9 answer) ≡ Ok xs → table t 9 ≡ xs
+pub gathered : {V : Type 0} {G : Ghosts V} (t : Desk V G) (answer : Result (Unit {0}) Refusal) (xs : List (Row V)) → made_of (contents t.areas) (made_in 9 answer) ≡ Ok xs → table t 9 ≡ xs
 gathered t (Ok x) xs h = cc
 gathered t (Err e) xs h = absurd (not_refused xs e h)

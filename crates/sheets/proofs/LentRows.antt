@@ -19,11 +19,13 @@ use Rattle.std.proofs.lemmas.Grind.{same_number_lists}
 use Rattle.std.proofs.lemmas.Bool.{cases_lt, cases_eq, ltb-true, eq-eqb, ne_eqb, and_parts, cond-true, cond-false, cond_both}
 use Rattle.refusals.specs.declared.Refusal.{Refusal}
 use Rattle.rings.specs.Kinds.{Kind}
+use Rattle.rings.specs.declared.ring.Ring.{Ghosts}
 use Rattle.formats.specs.Drafts.{variables}
 use Rattle.rows.specs.Lists.{part, put}
 use Rattle.rows.specs.Tables.{blank, sum, limited}
 use Rattle.rows.specs.declared.Row.{Row}
-use Rattle.areas.specs.Areas.{contents, capacity, count as counted}
+use Rattle.areas.specs.Shares.{capacity}
+use Rattle.areas.specs.Areas.{contents, count as counted}
 use Rattle.areas.proofs.Shares.{area_end}
 use Rattle.areas.proofs.Same.{same_rows, stored_rows, cleared_rows}
 use Rattle.refusals.specs.declared.Refusal.TheVariants.{Place}
@@ -36,7 +38,7 @@ use Rattle.sheets.specs.declared.desk.Desk.{Desk}
 use Rattle.sheets.proofs.States.{few-rows}
 use Rattle.sheets.proofs.Outcomes.{place-table, Ended}
 
-module _ {V : Type 0} (s : Desk V) where
+module _ {V : Type 0} {G : Ghosts V} (s : Desk V G) where
   abbrev rows : List (Row V)
   rows = s.areas.rows.now
 
@@ -59,7 +61,7 @@ module _ {V : Type 0} (s : Desk V) where
   place_is p h = ap (λ n. part (p * (state s).room) n rows) (count-is p h ∙ count-table p h) ∙ sym (place-table s p h)
 
 -- ---- two sheets at rest, on as many rows
-module _ {V : Type 0} (K : Kind V) (s t : Desk V) (b : Blank K s) (d : Blank K t) (long : length t.areas.rows.now ≡ length s.areas.rows.now) where
+module _ {V : Type 0} {G : Ghosts V} (s t : Desk V G) (b : Blank s) (d : Blank t) (long : length t.areas.rows.now ≡ length s.areas.rows.now) where
   abbrev old_tables : ℕ → List (Row V)
   old_tables = (contents s.areas).tables
 
@@ -68,14 +70,14 @@ module _ {V : Type 0} (K : Kind V) (s t : Desk V) (b : Blank K s) (d : Blank K t
 
   -- the tables of the working areas are empty in both
   empty : (a : ℕ) → 8 ≤ a → a < 12 → new_tables a ≡ old_tables a
-  empty a low high = d.working a low high ∙ sym (b.working a low high)
+  empty a low high = d a low high ∙ sym (b a low high)
 
   module _ (e : state t ≡ state s) where
     place_same : (p : ℕ) → p < 8 → new_tables p ≡ old_tables p
     place_same p h = sym (place-table t p h) ∙ ap (λ u. u.places p) e ∙ place-table s p h
 
     same-rows : t.areas.rows.now ≡ s.areas.rows.now
-    same-rows = same_rows K s.areas.rows.now t.areas.rows.now s.areas.counts t.areas.counts long b.tidy d.tidy (λ a h. ⊎_elim (λ l. place_same a l) (λ g. empty a g h) (cases_lt a 8))
+    same-rows = same_rows G.kind s.areas.rows.now t.areas.rows.now s.areas.counts t.areas.counts long s.areas.tidy t.areas.tidy (λ a h. ⊎_elim (λ l. place_same a l) (λ g. empty a g h) (cases_lt a 8))
 
     pub lent_same : lent_of t ≡ lent_of s
     lent_same i = record { rows = same-rows i; counts = map (λ p. length ((e i).places p)) (range_with_len 0 8); vars = (e i).vars }
@@ -93,10 +95,10 @@ module _ {V : Type 0} (K : Kind V) (s t : Desk V) (b : Blank K s) (d : Blank K t
         (λ g. empty a g l)
         (cases_lt a 8)
 
-    stored-rows : t.areas.rows.now ≡ (stored K (lent_of s) r xs).rows
+    stored-rows : t.areas.rows.now ≡ (stored G.kind (lent_of s) r xs).rows
     stored-rows =
-        stored_rows K s.areas.rows.now t.areas.rows.now s.areas.counts t.areas.counts long b.tidy d.tidy r (omega arith) xs this other
-        ∙ ap (λ n. put s.areas.rows.now (r * (state s).room) (xs ++ replicate (n - length xs) (blank K))) (sym (count-is s r h ∙ count-table s r h))
+        stored_rows G.kind s.areas.rows.now t.areas.rows.now s.areas.counts t.areas.counts long s.areas.tidy t.areas.tidy r (omega arith) xs this other
+        ∙ ap (λ n. put s.areas.rows.now (r * (state s).room) (xs ++ replicate (n - length xs) (blank G.kind))) (sym (count-is s r h ∙ count-table s r h))
 
     abbrev lengths : (ℕ → List (Row V)) → List ℕ
     lengths f = map (λ p. length (f p)) (range_with_len 0 8)
@@ -114,10 +116,10 @@ module _ {V : Type 0} (K : Kind V) (s t : Desk V) (b : Blank K s) (d : Blank K t
         (λ ne. ap length (cond-false _ _ _ (ne_eqb k r ne)) ∙ sym (get_or-set_other (lengths (state s).places) r k (length xs) 0 ne ∙ get_or-map-range_with_len (λ p. length ((state s).places p)) 0 8 k k 0 (omega arith) (omega arith)))
         (cases_eq k r))
 
-    pub lent_stored : lent_of t ≡ stored K (lent_of s) r xs
+    pub lent_stored : lent_of t ≡ stored G.kind (lent_of s) r xs
     lent_stored = λ i. record { rows = stored-rows i; counts = (ap (λ u. lengths u.places) e ∙ stored-counts) i; vars = (e i).vars }
 
-  pub lent_kept : (r : ℕ) (a : Result (List (Row V)) Refusal) → ((xs : List (Row V)) → a ≡ Ok xs → r < 8) → state t ≡ kept_state (state s) r a → lent_of t ≡ kept K (lent_of s) r a
+  pub lent_kept : (r : ℕ) (a : Result (List (Row V)) Refusal) → ((xs : List (Row V)) → a ≡ Ok xs → r < 8) → state t ≡ kept_state (state s) r a → lent_of t ≡ kept G.kind (lent_of s) r a
   lent_kept r (Ok xs) h e = lent_stored r (h xs refl) xs e
   lent_kept r (Err x) h e = lent_same e
 
@@ -126,12 +128,12 @@ kept_lent : {V : Type 0} (s : State V) (r : ℕ) (a : Result (List (Row V)) Refu
 kept_lent s r (Ok xs) = refl
 kept_lent s r (Err x) = refl
 
-module _ {V : Type 0} (K : Kind V) (s u : Desk V) (r : ℕ) (a : Result (List (Row V)) Refusal) (answer : Result (Unit {0}) Refusal) (e : Ended K s u r a answer) where
+module _ {V : Type 0} {G : Ghosts V} (s u : Desk V G) (r : ℕ) (a : Result (List (Row V)) Refusal) (answer : Result (Unit {0}) Refusal) (e : Ended s u r a answer) where
   pub ended_lent : length u.areas.rows.now ≡ length s.areas.rows.now
   ended_lent = ap (λ d. d.lent) e.leaves ∙ kept_lent (state s) r a
 
-  pub left_lent : Blank K s → ((xs : List (Row V)) → a ≡ Ok xs → r < 8) → lent_of u ≡ kept K (lent_of s) r a
-  left_lent b h = lent_kept K s u b (e.blank b) ended_lent r a h e.leaves
+  pub left_lent : Blank s → ((xs : List (Row V)) → a ≡ Ok xs → r < 8) → lent_of u ≡ kept G.kind (lent_of s) r a
+  left_lent b h = lent_kept s u b (e.blank b) ended_lent r a h e.leaves
 
 -- a refusal leaves the lent rows
 pub refused_lent : {V : Type 0} (K : Kind V) (l : Lent V) (r : ℕ) (a : Result (List (Row V)) Refusal) (x : Refusal) → a ≡ Err x → l ≡ kept K l r a
@@ -142,21 +144,21 @@ pub placed_first : {X : Type 0} (r : ℕ) (a : Result X Refusal) (x : X) → con
 placed_first r a x = cond_both (placed r) a (Err Place) (λ w. w ≡ Ok x → r < 8) (λ t e. ltb-true r 8 t) (λ t e. absurd (let z : ◌≡◌ {A = ℕ} 0 1 = cc in omega arith))
 
 -- ---- a sheet that was opened
-module _ {V : Type 0} (K : Kind V) (s : Desk V) (b : Blank K s) where
-  pub lent_opened : (n : ℕ) → length s.areas.rows.now ≡ n → state s ≡ opened_state n (variables s.format) → lent_of s ≡ opened K n (variables s.format)
+module _ {V : Type 0} {G : Ghosts V} (s : Desk V G) (b : Blank s) where
+  pub lent_opened : (n : ℕ) → length s.areas.rows.now ≡ n → state s ≡ opened_state n (variables s.format) → lent_of s ≡ opened G.kind n (variables s.format)
   lent_opened n long e =
-      let none : (a : ℕ) → a < 12 → (contents s.areas).tables a ≡ [] = λ a h. ⊎_elim (λ l. sym (place-table s a l) ∙ ap (λ u. u.places a) e) (λ g. b.working a g h) (cases_lt a 8) in
-      let rows = fresh_rows K s.areas.rows.now s.areas.counts b.tidy none ∙ ap (λ m. replicate m (blank K)) long in
+      let none : (a : ℕ) → a < 12 → (contents s.areas).tables a ≡ [] = λ a h. ⊎_elim (λ l. sym (place-table s a l) ∙ ap (λ u. u.places a) e) (λ g. b a g h) (cases_lt a 8) in
+      let rows = fresh_rows G.kind s.areas.rows.now s.areas.counts s.areas.tidy none ∙ ap (λ m. replicate m (blank G.kind)) long in
       λ i. record { rows = rows i; counts = map (λ p. length ((e i).places p)) (range_with_len 0 8); vars = variables s.format }
 
   -- blank rows in a working area change nothing
-  pub clear_same : (n : ℕ) → n ≤ room (lent_of s) → lent_of s ≡ cleared K (room (lent_of s)) (lent_of s) n
+  pub clear_same : (n : ℕ) → n ≤ room (lent_of s) → lent_of s ≡ cleared G.kind (room (lent_of s)) (lent_of s) n
   clear_same n few =
-      let rows = cleared_rows K s.areas.rows.now s.areas.counts 8 n b.tidy (omega arith) (b.working 8 (omega arith) (omega arith)) few in
+      let rows = cleared_rows G.kind s.areas.rows.now s.areas.counts 8 n s.areas.tidy (omega arith) (b 8 (omega arith) (omega arith)) few in
       λ i. record { rows = rows i; counts = (lent_of s).counts; vars = (lent_of s).vars }
 
 -- ---- answers
-module _ {V : Type 0} (K : Kind V) (s : Desk V) where
+module _ {V : Type 0} {G : Ghosts V} (K : Kind V) (s : Desk V G) where
   pub added-is : (r p q : ℕ) → add_answer K (lent_of s) r p q ≡ added K (state s) r p q
   added-is r p q = by (all_placed r p q) refl
     where
@@ -176,21 +178,21 @@ module _ {V : Type 0} (K : Kind V) (s : Desk V) where
   variable_is r (Err x) = refl
 
 -- ---- a sum
-module _ {V : Type 0} (K : Kind V) (s t : Desk V) (b : Blank K s) (d : Blank K t) (long : length t.areas.rows.now ≡ length s.areas.rows.now) where
+module _ {V : Type 0} {G : Ghosts V} (s t : Desk V G) (b : Blank s) (d : Blank t) (long : length t.areas.rows.now ≡ length s.areas.rows.now) where
   same-room : room (lent_of t) ≡ room (lent_of s)
   same-room = ap capacity long
 
-  settled-is : (r : ℕ) → r < 8 → (a : Result (List (Row V)) Refusal) → state t ≡ kept_state (state s) r a → lent_of t ≡ settled K (lent_of s) r a
+  settled-is : (r : ℕ) → r < 8 → (a : Result (List (Row V)) Refusal) → state t ≡ kept_state (state s) r a → lent_of t ≡ settled G.kind (lent_of s) r a
   settled-is r h (Ok xs) e =
       let f = few-rows t r in
       let m : (state t).places r ≡ xs = ap (λ u. u.places r) e ∙ cond-true _ _ _ (eq-eqb r r refl) in
       let l = ap length m in
-      clear_same K t d (length xs) (omega arith) ∙ (λ i. cleared K (same-room i) (lent_stored K s t b d long r h xs e i) (length xs))
-  settled-is r h (Err x) e = lent_same K s t b d long e ∙ clear_same K s b (room (lent_of s)) (omega arith)
+      clear_same t d (length xs) (omega arith) ∙ (λ i. cleared G.kind (same-room i) (lent_stored s t b d long r h xs e i) (length xs))
+  settled-is r h (Err x) e = lent_same s t b d long e ∙ clear_same s b (room (lent_of s)) (omega arith)
 
-  pub lent_added : (r p q : ℕ) → state t ≡ kept_state (state s) r (added K (state s) r p q) → lent_of t ≡ add_leaves K (lent_of s) r p q
-  lent_added r p q e = by (all_placed r p q) refl (e ∙ ap (kept_state (state s) r) (sym (added-is K s r p q)))
+  pub lent_added : (r p q : ℕ) → state t ≡ kept_state (state s) r (added G.kind (state s) r p q) → lent_of t ≡ add_leaves G.kind (lent_of s) r p q
+  lent_added r p q e = by (all_placed r p q) refl (e ∙ ap (kept_state (state s) r) (sym (added-is G.kind s r p q)))
     where
-      by : (w : Bool) → all_placed r p q ≡ w → state t ≡ kept_state (state s) r (add_answer K (lent_of s) r p q) → lent_of t ≡ cond w (settled K (lent_of s) r (add_answer K (lent_of s) r p q)) (lent_of s)
-      by true f g = settled-is r (ltb-true r 8 (and_parts _ _ f).0) (add_answer K (lent_of s) r p q) g
-      by false f g = lent_same K s t b d long (g ∙ ap (λ w. kept_state (state s) r (cond w (limited (room (lent_of s)) (sum K (place (lent_of s) p) (place (lent_of s) q))) (Err Place))) f)
+      by : (w : Bool) → all_placed r p q ≡ w → state t ≡ kept_state (state s) r (add_answer G.kind (lent_of s) r p q) → lent_of t ≡ cond w (settled G.kind (lent_of s) r (add_answer G.kind (lent_of s) r p q)) (lent_of s)
+      by true f g = settled-is r (ltb-true r 8 (and_parts _ _ f).0) (add_answer G.kind (lent_of s) r p q) g
+      by false f g = lent_same s t b d long (g ∙ ap (λ w. kept_state (state s) r (cond w (limited (room (lent_of s)) (sum G.kind (place (lent_of s) p) (place (lent_of s) q))) (Err Place))) f)

@@ -4,6 +4,7 @@ use Rattle.std.proofs.lemmas.Bool.{cases_lt, lt-ltb, le-ltb, eq-eqb, ne_eqb, con
 use Rattle.refusals.specs.declared.Refusal.{Refusal}
 use Rattle.refusals.specs.declared.Refusal.TheVariants.{Rows, Place}
 use Rattle.rings.specs.Kinds.{Kind, ValueLaws}
+use Rattle.rings.specs.declared.ring.Ring.{Ghosts}
 use Rattle.rings.specs.Members.{RingLaws}
 use Rattle.rows.specs.Canonical.{Canonical, Adds}
 use Rattle.rows.specs.Tables.{sum, limited}
@@ -19,7 +20,7 @@ use Rattle.sheets.specs.declared.desk.Desk.{Desk}
 use Rattle.sheets.proofs.Outcomes.{three_placed}
 use Rattle.sheets.proofs.LentRows.{place_is, added-is}
 
-module _ {V : Type 0} (K : Kind V) (s t : Desk V) (ring : RingLaws K.ops) (laws : ValueLaws K) where
+module _ {V : Type 0} {G : Ghosts V} (K : Kind V) (s t : Desk V G) (ring : RingLaws K.ops) (laws : ValueLaws K) where
   module _ (r p q : ℕ) (hr : r < 8) where
     abbrev first : List (Row V)
     first = place (lent_of s) p

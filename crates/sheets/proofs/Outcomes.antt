@@ -2,7 +2,7 @@
 --     two_placed, three_placed      the test of places, where all are places
 --     apart_areas                   the test of areas, where they are apart
 --     place-table, place-found      the table of a place is that of its area
---     Ended K s u r a answer        the call that answered took the sheet s to u: it was to leave the rows of a in the place r
+--     Ended s u r a answer          the call that answered took the sheet s to u: it was to leave the rows of a in the place r
 --     ends, written                 a call that finished what it had made; one that wrote to its place at once
 --     named                         the place was told by its number
 --     passing                       with a test before it, whose refusal is x
@@ -15,6 +15,7 @@ use Rattle.refusals.specs.declared.Refusal.{Refusal}
 use Rattle.refusals.specs.declared.Refusal.TheVariants.{Place}
 use Rattle.rings.specs.Members.{RingLaws}
 use Rattle.rings.specs.Kinds.{Kind, ValueLaws}
+use Rattle.rings.specs.declared.ring.Ring.{Ghosts}
 use Rattle.formats.specs.Drafts.{variables}
 use Rattle.formats.specs.declared.variable.Variable.{Variable}
 use Rattle.formats.proofs.Keys.{sound}
@@ -23,7 +24,7 @@ use Rattle.algebra.specs.Polynomials.{Poly}
 use Rattle.algebra.specs.Tables.{CanonicalRows}
 use Rattle.arithmetic.specs.Theorems.{Gives, TableArithmetic}
 use Rattle.arithmetic.proofs.Meaning.{table_arithmetic_lem}
-use Rattle.areas.specs.Areas.{contents, storing, answered, apart, Tidy}
+use Rattle.areas.specs.Areas.{contents, storing, answered, apart}
 use Rattle.sheets.specs.States.{State, seen, kept}
 use Rattle.sheets.specs.Desks.{state, Blank}
 use Rattle.sheets.specs.Calls.{both_placed, all_placed}
@@ -43,45 +44,42 @@ pub apart_areas : (t a b : ℕ) → t < 12 → a < 12 → b < 12 → (t ≡ a �
 apart_areas t a b ht ha hb na nb =
     and_from _ _ (and_from _ _ (lt-ltb t 12 ht) (and_from _ _ (lt-ltb a 12 ha) (lt-ltb b 12 hb))) (and_from _ _ (not_from_false _ (ne_eqb t a na)) (not_from_false _ (ne_eqb t b nb)))
 
-pub place-table : {V : Type 0} (s : Desk V) (p : ℕ) → p < 8 → (state s).places p ≡ (contents s.areas).tables p
+pub place-table : {V : Type 0} {G : Ghosts V} (s : Desk V G) (p : ℕ) → p < 8 → (state s).places p ≡ (contents s.areas).tables p
 place-table s p h = cond-true _ _ _ (lt-ltb p 8 h)
 
 -- the area a is that of the place n
-pub place-found : {V : Type 0} (s : Desk V) (a n : ℕ) → (a ≡ n) × (n < 8) → (contents s.areas).tables a ≡ (state s).places n
+pub place-found : {V : Type 0} {G : Ghosts V} (s : Desk V G) (a n : ℕ) → (a ≡ n) × (n < 8) → (contents s.areas).tables a ≡ (state s).places n
 place-found s a n is = ap (contents s.areas).tables is.0 ∙ sym (place-table s n is.1)
 
 -- ---- the end of a call
-pub record Ended {V : Type 0} (K : Kind V) (s u : Desk V) (r : ℕ) (a : Result (List (Row V)) Refusal) (answer : Result (Unit {0}) Refusal) : Type 0 where
+pub record Ended {V : Type 0} {G : Ghosts V} (s u : Desk V G) (r : ℕ) (a : Result (List (Row V)) Refusal) (answer : Result (Unit {0}) Refusal) : Type 0 where
   pub answers : answer ≡ answered a
   pub leaves : state u ≡ kept (state s) r a
-  pub blank : Blank K s → Blank K u
+  pub blank : Blank s → Blank u
 
-module _ {V : Type 0} (K : Kind V) (s : Desk V) where
-  pub ends : (n : ℕ) → 8 ≤ n → (t u : Desk V) (r : ℕ) (a : Result (List (Row V)) Refusal) (made : Result ℕ Refusal) (answer : Result (Unit {0}) Refusal) → Making K n s t a made → answer ≡ ended made → state u ≡ finished (state t) (contents t.areas) r made → (Tidy K t.areas → Blank K u) → Ended K s u r a answer
+module _ {V : Type 0} {G : Ghosts V} (s : Desk V G) where
+  pub ends : (n : ℕ) → 8 ≤ n → (t u : Desk V G) (r : ℕ) (a : Result (List (Row V)) Refusal) (made : Result ℕ Refusal) (answer : Result (Unit {0}) Refusal) → Making n s t a made → answer ≡ ended made → state u ≡ finished (state t) (contents t.areas) r made → Blank u → Ended s u r a answer
   ends n h t u r a made answer m answers leaves blank = record {
-    answers = answers ∙ making_ended K n h s t a made m;
-    leaves = leaves ∙ making_kept K n h s t a made m r;
-    blank = λ b. blank (m.tidy b.tidy);
+    answers = answers ∙ making_ended n h s t a made m;
+    leaves = leaves ∙ making_kept n h s t a made m r;
+    blank = λ b. blank;
   }
 
-  pub written : (u : Desk V) (r : ℕ) (xs : List (Row V)) → r < 8 → contents u.areas ≡ storing (contents s.areas) r xs → u.format ≡ s.format → (Tidy K s.areas → Tidy K u.areas) → Ended K s u r (Ok xs) (Ok tt)
-  written u r xs h is format tidy = record {
+  pub written : (u : Desk V G) (r : ℕ) (xs : List (Row V)) → r < 8 → contents u.areas ≡ storing (contents s.areas) r xs → u.format ≡ s.format → Ended s u r (Ok xs) (Ok tt)
+  written u r xs h is format = record {
     answers = refl;
     leaves = (λ i. seen (is i) (variables (format i))) ∙ seen-place (contents s.areas) (variables s.format) r xs h;
-    blank = λ b. record {
-      tidy = tidy b.tidy;
-      working = λ a low high. ap (λ c. c.tables a) is ∙ table-other (contents s.areas) r xs a (λ e. omega arith) ∙ b.working a low high;
-    };
+    blank = λ b a low high. ap (λ c. c.tables a) is ∙ table-other (contents s.areas) r xs a (λ e. omega arith) ∙ b a low high;
   }
 
   -- the place was told by its number
-  pub named : (u : Desk V) (r n : ℕ) (a : Result (List (Row V)) Refusal) (answer : Result (Unit {0}) Refusal) → (r ≡ n) × (n < 8) → Ended K s u r a answer → Ended K s u n a answer
-  named u r n a answer is = subst (λ p. Ended K s u p a answer) is.0
+  pub named : (u : Desk V G) (r n : ℕ) (a : Result (List (Row V)) Refusal) (answer : Result (Unit {0}) Refusal) → (r ≡ n) × (n < 8) → Ended s u r a answer → Ended s u n a answer
+  named u r n a answer is = subst (λ p. Ended s u p a answer) is.0
 
-  pub passing : (u : Desk V) (r : ℕ) (a : Result (List (Row V)) Refusal) (answer : Result (Unit {0}) Refusal) (x : Refusal) (t : Bool) → t ≡ true → Ended K s u r a answer → Ended K s u r (cond t a (Err x)) answer
-  passing u r a answer x t e = subst (λ z. Ended K s u r z answer) (sym (cond-true t a (Err x) e))
+  pub passing : (u : Desk V G) (r : ℕ) (a : Result (List (Row V)) Refusal) (answer : Result (Unit {0}) Refusal) (x : Refusal) (t : Bool) → t ≡ true → Ended s u r a answer → Ended s u r (cond t a (Err x)) answer
+  passing u r a answer x t e = subst (λ z. Ended s u r z answer) (sym (cond-true t a (Err x) e))
 
-  pub tested : (u : Desk V) (r : ℕ) (a : Result (List (Row V)) Refusal) (answer : Result (Unit {0}) Refusal) (t : Bool) → t ≡ true → Ended K s u r a answer → Ended K s u r (cond t a (Err Place)) answer
+  pub tested : (u : Desk V G) (r : ℕ) (a : Result (List (Row V)) Refusal) (answer : Result (Unit {0}) Refusal) (t : Bool) → t ≡ true → Ended s u r a answer → Ended s u r (cond t a (Err Place)) answer
   tested u r a answer t = passing u r a answer Place t
 
 -- ---- algebra
@@ -100,5 +98,5 @@ module _ {V : Type 0} (K : Kind V) where
   pub outcome : (s t : State V) (f : Formulas K) (r : ℕ) (p : Poly K.ops) (Bad : Refusal → Type 0) (a : Result (List (Row V)) Refusal) (answer : Result (Unit {0}) Refusal) → answer ≡ answered a → t ≡ kept s r a → Holds K s f → Gives K s.vars p Bad a → Outcome K t f r p Bad answer
   outcome s t f r p Bad a answer e l h gives = subst₂ (λ u x. Outcome K u f r p Bad x) (sym l) (sym e) (left s f r p Bad h a gives)
 
-  pub theory : RingLaws K.ops → ValueLaws K → (s : Desk V) → TableArithmetic K (state s).vars (state s).room
+  pub theory : {G : Ghosts V} → RingLaws K.ops → ValueLaws K → (s : Desk V G) → TableArithmetic K (state s).vars (state s).room
   theory ring laws s = table_arithmetic_lem K ring laws (variables s.format) (state s).room (sound s.format)

@@ -13,13 +13,14 @@ use Rattle.std.proofs.lemmas.List.{at_drop_more, at_drop_all}
 use Rattle.refusals.specs.declared.Refusal.{Refusal}
 use Rattle.refusals.specs.declared.Refusal.TheVariants.{Exponent}
 use Rattle.rings.specs.Kinds.{Kind}
+use Rattle.rings.specs.declared.ring.Ring.{Ghosts}
 use Rattle.formats.specs.Drafts.{variables}
 use Rattle.formats.specs.declared.variable.Variable.{Variable}
 use Rattle.formats.proofs.Keys.{sound}
 use Rattle.rows.specs.Products.{joined, continued}
 use Rattle.rows.specs.Tables.{limited}
 use Rattle.rows.specs.declared.Row.{Row}
-use Rattle.areas.specs.Areas.{contents, storing, answered, Tidy}
+use Rattle.areas.specs.Areas.{contents, storing, answered}
 use Rattle.arithmetic.specs.Multiplying.{step, multiplied, product}
 use Rattle.sheets.specs.Desks.{state}
 use Rattle.sheets.specs.Ends.{made_in, made_of, Making}
@@ -32,78 +33,77 @@ abbrev pub always : {V : Type 0} → List (Row V) → Row V → List (Row V)
 always xs y = xs
 
 -- ---- steps after steps
-module _ {V : Type 0} (K : Kind V) where
-  pub kept_same : (same : ℕ → Type 0) (s : Desk V) → Kept K same s s
-  kept_same same s = record { others = λ o h. refl; lent = refl; room = refl; format = refl; tidy = λ h. h }
+module _ {V : Type 0} {G : Ghosts V} where
+  pub kept_same : (same : ℕ → Type 0) (s : Desk V G) → Kept same s s
+  kept_same same s = record { others = λ o h. refl; lent = refl; room = refl; format = refl }
 
-  pub kept-after : (one two all : ℕ → Type 0) (s t u : Desk V) → ((o : ℕ) → all o → one o × two o) → Kept K one s t → Kept K two t u → Kept K all s u
+  pub kept-after : (one two all : ℕ → Type 0) (s t u : Desk V G) → ((o : ℕ) → all o → one o × two o) → Kept one s t → Kept two t u → Kept all s u
   kept-after one two all s t u both p q = record {
     others = λ o h. q.others o (both o h).1 ∙ p.others o (both o h).0;
     lent = q.lent ∙ p.lent;
     room = q.room ∙ p.room;
     format = q.format ∙ p.format;
-    tidy = λ h. q.tidy (p.tidy h);
   }
 
-  pub kept_fewer : (one all : ℕ → Type 0) (s t : Desk V) → ((o : ℕ) → all o → one o) → Kept K one s t → Kept K all s t
-  kept_fewer one all s t less k = record { others = λ o h. k.others o (less o h); lent = k.lent; room = k.room; format = k.format; tidy = k.tidy }
+  pub kept_fewer : (one all : ℕ → Type 0) (s t : Desk V G) → ((o : ℕ) → all o → one o) → Kept one s t → Kept all s t
+  kept_fewer one all s t less k = record { others = λ o h. k.others o (less o h); lent = k.lent; room = k.room; format = k.format }
 
-  pub kept-stored : (s t : Desk V) (a : ℕ) (xs : List (Row V)) → contents t.areas ≡ storing (contents s.areas) a xs → t.format ≡ s.format → (Tidy K s.areas → Tidy K t.areas) → Kept K (but a) s t
-  kept-stored s t a xs is format tidy = record { others = λ o h. ap (λ c. c.tables o) is ∙ table-other (contents s.areas) a xs o h; lent = ap (λ c. c.lent) is; room = ap (λ c. c.room) is; format = format; tidy = tidy }
+  pub kept-stored : (s t : Desk V G) (a : ℕ) (xs : List (Row V)) → contents t.areas ≡ storing (contents s.areas) a xs → t.format ≡ s.format → Kept (but a) s t
+  kept-stored s t a xs is format = record { others = λ o h. ap (λ c. c.tables o) is ∙ table-other (contents s.areas) a xs o h; lent = ap (λ c. c.lent) is; room = ap (λ c. c.room) is; format = format }
 
-  pub made_kept : (n : ℕ) (s t : Desk V) (a : Result (List (Row V)) Refusal) (made : Result ℕ Refusal) → Making K n s t a made → Kept K (below n) s t
-  made_kept n s t a made m = record { others = m.others; lent = m.lent; room = m.room; format = m.format; tidy = m.tidy }
+  pub made_kept : (n : ℕ) (s t : Desk V G) (a : Result (List (Row V)) Refusal) (made : Result ℕ Refusal) → Making n s t a made → Kept (below n) s t
+  made_kept n s t a made m = record { others = m.others; lent = m.lent; room = m.room; format = m.format }
 
-  pub made_by : (n : ℕ) (s t : Desk V) (a : Result (List (Row V)) Refusal) (made : Result ℕ Refusal) → Kept K (below n) s t → made_of (contents t.areas) made ≡ a → Making K n s t a made
-  made_by n s t a made k e = record { result = e; others = k.others; lent = k.lent; room = k.room; format = k.format; tidy = k.tidy }
+  pub made_by : (n : ℕ) (s t : Desk V G) (a : Result (List (Row V)) Refusal) (made : Result ℕ Refusal) → Kept (below n) s t → made_of (contents t.areas) made ≡ a → Making n s t a made
+  made_by n s t a made k e = record { result = e; others = k.others; lent = k.lent; room = k.room; format = k.format }
 
-  pub making_after : (n : ℕ) (s t u : Desk V) (a b : Result (List (Row V)) Refusal) (made : Result ℕ Refusal) → Kept K (below n) s t → b ≡ a → Making K n t u b made → Making K n s u a made
+  pub making_after : (n : ℕ) (s t u : Desk V G) (a b : Result (List (Row V)) Refusal) (made : Result ℕ Refusal) → Kept (below n) s t → b ≡ a → Making n t u b made → Making n s u a made
   making_after n s t u a b made k e m = made_by n s u a made (kept-after (below n) (below n) (below n) s t u (λ o h. (h, h)) k (made_kept n t u b made m)) (m.result ∙ e)
 
   -- the product of two tables, after the area 10 was written
-  pub product-kept : (s t : Desk V) → Kept K (but 10) s t → (p q : ℕ) → p < 10 → q < 10 → product K (state t).vars (state t).room (table t p) (table t q) ≡ product K (state s).vars (state s).room (table s p) (table s q)
-  product-kept s t k p q hp hq = λ i. product K (variables (k.format i)) (k.room i) (k.others p (λ e. omega arith) i) (k.others q (λ e. omega arith) i)
+  pub product-kept : (K : Kind V) (s t : Desk V G) → Kept (but 10) s t → (p q : ℕ) → p < 10 → q < 10 → product K (state t).vars (state t).room (table t p) (table t q) ≡ product K (state s).vars (state s).room (table s p) (table s q)
+  product-kept K s t k p q hp hq = λ i. product K (variables (k.format i)) (k.room i) (k.others p (λ e. omega arith) i) (k.others q (λ e. omega arith) i)
 
 -- ---- one turn
 pub turn_step : {V : Type 0} (K : Kind V) (vs : List Variable) (c : ℕ) (most : List ℕ) (acc xs : List (Row V)) (y : Row V) → length vs ≤ 8 → most ≡ highest vs (replicate 8 0) xs → turned K vs c most acc xs y ≡ step K vs c acc xs y
 turn_step K vs c most acc xs y few e = ap (λ m. turned K vs c m acc xs y) e ∙ ap (λ t. cond t (limited c (joined K acc y xs)) (Err Exponent)) (highest-inside vs y xs few)
 
 -- ---- all turns
-module _ {V : Type 0} (K : Kind V) (n : ℕ) (pick : Row V → List (Row V)) (ys : List (Row V)) (s : Desk V) where
+module _ {V : Type 0} {G : Ghosts V} (K : Kind V) (n : ℕ) (pick : Row V → List (Row V)) (ys : List (Row V)) (s : Desk V G) where
   abbrev rest : List (Row V) → List (Row V) → Result (List (Row V)) Refusal
   rest = multiplied K (state s).vars (state s).room pick
 
   abbrev one : List (Row V) → Row V → Result (List (Row V)) Refusal
   one acc y = step K (state s).vars (state s).room acc (pick y) y
 
-  pub record Turn (t u : Desk V) (at : ℕ) (y : Row V) (made : Result ℕ Refusal) : Type 0 where
-    pub kept : Kept K (below n) t u
+  pub record Turn (t u : Desk V G) (at : ℕ) (y : Row V) (made : Result ℕ Refusal) : Type 0 where
+    pub kept : Kept (below n) t u
     pub makes : made_of (contents u.areas) made ≡ one (table t at) y
     pub area : made ≡ made_in (21 - at) (answered (one (table t at) y))
 
-  pub record Running (t : Desk V) (at i : ℕ) : Type 0 where
+  pub record Running (t : Desk V G) (at i : ℕ) : Type 0 where
     pub low : 10 ≤ at
     pub high : at ≤ 11
-    pub kept : Kept K (below n) s t
+    pub kept : Kept (below n) s t
     pub whole : rest (table t at) (drop i ys) ≡ rest [] ys
 
   -- with the rows of the area f, in a sheet mid that has the running table too
-  pub turn_taken : n ≤ 10 → (t mid u : Desk V) (at i f : ℕ) (most : List ℕ) (y : Row V) (made : Result ℕ Refusal) → Running t at i → Kept K (below n) t mid → table mid at ≡ table t at → table mid f ≡ pick y → most ≡ highest (state s).vars (replicate 8 0) (pick y) → Making K 10 mid u (turned K (state mid).vars (state mid).room most (table mid at) (table mid f) y) made → made ≡ made_in (21 - at) (answered (turned K (state mid).vars (state mid).room most (table mid at) (table mid f) y)) → Turn t u at y made
+  pub turn_taken : n ≤ 10 → (t mid u : Desk V G) (at i f : ℕ) (most : List ℕ) (y : Row V) (made : Result ℕ Refusal) → Running t at i → Kept (below n) t mid → table mid at ≡ table t at → table mid f ≡ pick y → most ≡ highest (state s).vars (replicate 8 0) (pick y) → Making 10 mid u (turned K (state mid).vars (state mid).room most (table mid at) (table mid f) y) made → made ≡ made_in (21 - at) (answered (turned K (state mid).vars (state mid).room most (table mid at) (table mid f) y)) → Turn t u at y made
   turn_taken few t mid u at i f most y made r k acc rows high m area =
       let same : turned K (state mid).vars (state mid).room most (table mid at) (table mid f) y ≡ one (table t at) y =
       (λ j. turned K (variables ((k.format ∙ r.kept.format) j)) ((k.room ∙ r.kept.room) j) most (acc j) (rows j) y) ∙ turn_step K (state s).vars (state s).room most (table t at) (pick y) y (sound s.format).few high in
-      record { kept = kept-after K (below n) (below 10) (below n) t mid u (λ o h. (h, omega arith)) k (made_kept K 10 mid u _ made m); makes = m.result ∙ same; area = area ∙ ap (λ z. made_in (21 - at) (answered z)) same }
+      record { kept = kept-after (below n) (below 10) (below n) t mid u (λ o h. (h, omega arith)) k (made_kept 10 mid u _ made m); makes = m.result ∙ same; area = area ∙ ap (λ z. made_in (21 - at) (answered z)) same }
 
   pub running_none : table s 10 ≡ [] → Running s 10 0
-  running_none e = record { low = omega arith; high = omega arith; kept = kept_same K (below n) s; whole = ap (λ acc. rest acc ys) e }
+  running_none e = record { low = omega arith; high = omega arith; kept = kept_same (below n) s; whole = ap (λ acc. rest acc ys) e }
 
-  module _ (t u : Desk V) (at i : ℕ) (r : Running t at i) (more : i < length ys) (y : Row V) (is : y ≡ get_or ys i y) (made : Result ℕ Refusal) (taken : Turn t u at y made) where
+  module _ (t u : Desk V G) (at i : ℕ) (r : Running t at i) (more : i < length ys) (y : Row V) (is : y ≡ get_or ys i y) (made : Result ℕ Refusal) (taken : Turn t u at y made) where
     next : continued (made_of (contents u.areas) made) (λ acc. rest acc (drop (i + 1) ys)) ≡ rest [] ys
     next =
         ap (λ z. continued z (λ acc. rest acc (drop (i + 1) ys))) taken.makes ∙ sym (at_drop_more (rest (table t at)) ys i y more ∙ ap (λ x. rest (table t at) (x ∷ drop (i + 1) ys)) (sym is)) ∙ r.whole
 
-    so_far : Kept K (below n) s u
-    so_far = kept-after K (below n) (below n) (below n) s t u (λ o h. (h, h)) r.kept taken.kept
+    so_far : Kept (below n) s u
+    so_far = kept-after (below n) (below n) (below n) s t u (λ o h. (h, h)) r.kept taken.kept
 
     pub running_more : (a : ℕ) → made ≡ Ok a → Running u a (i + 1)
     running_more a e = record { low = omega (arith, other, r.high); high = omega (arith, other, r.low); kept = so_far; whole = ap (λ z. continued (made_of (contents u.areas) z) (λ acc. rest acc (drop (i + 1) ys))) (sym e) ∙ next }
@@ -115,8 +115,8 @@ module _ {V : Type 0} (K : Kind V) (n : ℕ) (pick : Row V → List (Row V)) (ys
         other : a ≡ 21 - at
         other = by (one (table t at) y) (sym e ∙ taken.area)
 
-    pub running-refused : (x : Refusal) → made ≡ Err x → Making K n s u (rest [] ys) (Err x)
-    running-refused x e = made_by K n s u (rest [] ys) (Err x) so_far (ap (λ z. continued (made_of (contents u.areas) z) (λ acc. rest acc (drop (i + 1) ys))) (sym e) ∙ next)
+    pub running-refused : (x : Refusal) → made ≡ Err x → Making n s u (rest [] ys) (Err x)
+    running-refused x e = made_by n s u (rest [] ys) (Err x) so_far (ap (λ z. continued (made_of (contents u.areas) z) (λ acc. rest acc (drop (i + 1) ys))) (sym e) ∙ next)
 
-  pub running_all : (t : Desk V) (at i : ℕ) → Running t at i → length ys ≤ i → Making K n s t (rest [] ys) (Ok at)
-  running_all t at i r all = made_by K n s t (rest [] ys) (Ok at) r.kept (sym (at_drop_all (rest (table t at)) ys i all) ∙ r.whole)
+  pub running_all : (t : Desk V G) (at i : ℕ) → Running t at i → length ys ≤ i → Making n s t (rest [] ys) (Ok at)
+  running_all t at i r all = made_by n s t (rest [] ys) (Ok at) r.kept (sym (at_drop_all (rest (table t at)) ys i all) ∙ r.whole)

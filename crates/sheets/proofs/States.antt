@@ -7,22 +7,23 @@
 --     few-rows                     a place has no more rows than it has room for
 --     seen-fresh                   areas that were opened
 --     swept_places, swept_areas    the four working areas, emptied
---     Stored, stored-made, stored-none      a result that was made, in its place, and one that was refused
+--     stored-made, stored-none     a result that was made, in its place, and one that was refused
 --     fewer                        steps that leave the areas below n leave fewer
 --     passed                       a pass into a working area makes what it leaves there
 --     before                       another area was written before
 --     pushed-one                   and so does a row pushed to an empty one
 --     making_ended, making_kept    at the end of a call its answer is that of what was made, and so is the state
-use Rattle.std.proofs.Common.{◌≡◌, ℕ, ◌*◌, ◌<◌, ◌≤◌, cond, ◌&&◌, eqb, ltb, List, [], ◌∷◌, ◌++◌, length, drop, Ok, Err, Result, sym, refl, ap, ◌∙◌, subst, ⊎_elim, arith}
+use Rattle.std.proofs.Common.{◌≡◌, ℕ, ◌*◌, ◌<◌, ◌≤◌, cond, ◌&&◌, eqb, ltb, List, [], ◌∷◌, ◌++◌, length, drop, Ok, Err, Result, sym, refl, ap, ◌∙◌, ⊎_elim, arith}
 use Rattle.std.proofs.lemmas.List.{length-take}
 use Rattle.std.proofs.lemmas.Bool.{cases_eq, ltb-true, lt-ltb, eq-eqb, ne_eqb, and_from, and_left, cond-true, cond-false, cond_both}
 use Rattle.refusals.specs.declared.Refusal.{Refusal}
-use Rattle.rings.specs.Kinds.{Kind}
+use Rattle.rings.specs.declared.ring.Ring.{Ghosts}
 use Rattle.formats.specs.Drafts.{variables}
 use Rattle.formats.specs.declared.variable.Variable.{Variable}
 use Rattle.rows.specs.Tables.{limited}
 use Rattle.rows.specs.declared.Row.{Row}
-use Rattle.areas.specs.Areas.{Contents, contents, capacity, count, storing, fresh, rows_of, answered, pushed, kept as held, Tidy}
+use Rattle.areas.specs.Shares.{capacity}
+use Rattle.areas.specs.Areas.{Contents, contents, count, storing, fresh, rows_of, answered, pushed, kept as held}
 use Rattle.areas.specs.declared.twelve.Areas.{Areas}
 use Rattle.sheets.specs.States.{placed, seen, opened, stored, kept}
 use Rattle.sheets.specs.Desks.{state}
@@ -30,7 +31,7 @@ use Rattle.sheets.specs.Ends.{made_in, ended, finished, made_of, Making}
 use Rattle.sheets.specs.declared.desk.Desk.{Desk}
 
 -- the sheet s on other areas
-abbrev pub with_areas : {V : Type 0} → Desk V → Areas V → Desk V
+abbrev pub with_areas : {V : Type 0} {G : Ghosts V} → Desk V G → Areas V G → Desk V G
 with_areas s a = record { areas = a; format = s.format }
 
 -- ---- tables
@@ -60,7 +61,7 @@ module _ {V : Type 0} (c : Contents V) (vs : List Variable) where
       (cases_eq p r) in
       λ i. record { lent = c.lent; room = c.room; places = λ p. place p i; vars = vs }
 
-pub few-rows : {V : Type 0} (s : Desk V) (p : ℕ) → length ((state s).places p) ≤ (state s).room
+pub few-rows : {V : Type 0} {G : Ghosts V} (s : Desk V G) (p : ℕ) → length ((state s).places p) ≤ (state s).room
 few-rows s p =
     let c = contents s.areas in
     let n = count s.areas p in
@@ -97,51 +98,39 @@ module _ {V : Type 0} (c c₈ c₉ c₁₀ c₁₁ : Contents V) (e₈ : c₈ �
       (cases_eq a 11)
 
 -- ---- the end of a call
-module _ {V : Type 0} (K : Kind V) (s t : Desk V) (r : ℕ) (made : Result ℕ Refusal) where
-  -- what finishing has done before it sweeps
-  pub record Stored : Type 0 where
-    pub leaves : state t ≡ finished (state s) (contents s.areas) r made
-    pub tidy : Tidy K s.areas → Tidy K t.areas
+module _ {V : Type 0} {G : Ghosts V} (s t : Desk V G) (r : ℕ) (made : Result ℕ Refusal) where
+  pub stored-made : r < 8 → (a : ℕ) → made ≡ Ok a → contents t.areas ≡ storing (contents s.areas) r ((contents s.areas).tables a) → t.format ≡ s.format → state t ≡ finished (state s) (contents s.areas) r made
+  stored-made h a e is format =
+      (λ i. seen (is i) (variables (format i))) ∙ seen-place (contents s.areas) (variables s.format) r ((contents s.areas).tables a) h
+      ∙ ap (finished (state s) (contents s.areas) r) (sym e)
 
-  pub stored-made : r < 8 → (a : ℕ) → made ≡ Ok a → contents t.areas ≡ storing (contents s.areas) r ((contents s.areas).tables a) → t.format ≡ s.format → (Tidy K s.areas → Tidy K t.areas) → Stored
-  stored-made h a e is format tidy = record {
-    leaves =
-        (λ i. seen (is i) (variables (format i))) ∙ seen-place (contents s.areas) (variables s.format) r ((contents s.areas).tables a) h
-        ∙ ap (finished (state s) (contents s.areas) r) (sym e);
-    tidy = tidy;
-  }
-
-  pub stored-none : ((a : ℕ) → made ≡ Ok a → ⊥) → t ≡ s → Stored
-  stored-none none is = record {
-    leaves = ap state is ∙ by made none;
-    tidy = subst (λ u. Tidy K s.areas → Tidy K u.areas) (sym is) (λ x. x);
-  }
+  pub stored-none : ((a : ℕ) → made ≡ Ok a → ⊥) → t ≡ s → state t ≡ finished (state s) (contents s.areas) r made
+  stored-none none is = ap state is ∙ by made none
     where
       by : (made : Result ℕ Refusal) → ((a : ℕ) → made ≡ Ok a → ⊥) → state s ≡ finished (state s) (contents s.areas) r made
       by (Ok a) n = absurd (n a refl)
       by (Err e) n = refl
 
 -- ---- what was made
-module _ {V : Type 0} (K : Kind V) where
-  pub fewer : (m n : ℕ) (s t : Desk V) (a : Result (List (Row V)) Refusal) (made : Result ℕ Refusal) → m ≤ n → Making K n s t a made → Making K m s t a made
-  fewer m n s t a made h m' = record { result = m'.result; others = λ o l. m'.others o (omega arith); lent = m'.lent; room = m'.room; format = m'.format; tidy = m'.tidy }
+module _ {V : Type 0} {G : Ghosts V} where
+  pub fewer : (m n : ℕ) (s t : Desk V G) (a : Result (List (Row V)) Refusal) (made : Result ℕ Refusal) → m ≤ n → Making n s t a made → Making m s t a made
+  fewer m n s t a made h m' = record { result = m'.result; others = λ o l. m'.others o (omega arith); lent = m'.lent; room = m'.room; format = m'.format }
 
   -- the area w of t holds the rows of a, if it is no refusal, and t is as s is in the areas below n
-  pub passed : (n w : ℕ) (s t : Desk V) (a : Result (List (Row V)) Refusal) (answer : Result (Unit {0}) Refusal) (made : Result ℕ Refusal) → n ≤ w → w < 12 → contents t.areas ≡ storing (contents s.areas) w (rows_of a) → t.format ≡ s.format → (Tidy K s.areas → Tidy K t.areas) → answer ≡ answered a → made ≡ made_in w answer → Making K n s t a made
-  passed n w s t a answer made low high is format tidy answers makes = record {
+  pub passed : (n w : ℕ) (s t : Desk V G) (a : Result (List (Row V)) Refusal) (answer : Result (Unit {0}) Refusal) (made : Result ℕ Refusal) → n ≤ w → w < 12 → contents t.areas ≡ storing (contents s.areas) w (rows_of a) → t.format ≡ s.format → answer ≡ answered a → made ≡ made_in w answer → Making n s t a made
+  passed n w s t a answer made low high is format answers makes = record {
     result = ap (made_of (contents t.areas)) (makes ∙ ap (made_in w) answers) ∙ there a is;
     others = λ o l. ap (λ c. c.tables o) is ∙ table-other (contents s.areas) w (rows_of a) o (λ e. omega arith);
     lent = ap (λ c. c.lent) is;
     room = ap (λ c. c.room) is;
     format = format;
-    tidy = tidy;
   }
     where
       there : (a : Result (List (Row V)) Refusal) → contents t.areas ≡ storing (contents s.areas) w (rows_of a) → made_of (contents t.areas) (made_in w (answered a)) ≡ a
       there (Ok xs) e = ap Ok (ap (λ c. c.tables w) e ∙ table-there (contents s.areas) w xs high)
       there (Err x) e = refl
 
-  module _ (n : ℕ) (places : 8 ≤ n) (s t : Desk V) (a : Result (List (Row V)) Refusal) (made : Result ℕ Refusal) (m : Making K n s t a made) where
+  module _ (n : ℕ) (places : 8 ≤ n) (s t : Desk V G) (a : Result (List (Row V)) Refusal) (made : Result ℕ Refusal) (m : Making n s t a made) where
     pub making_state : state t ≡ state s
     making_state = ap (λ f. seen (contents t.areas) (variables f)) m.format ∙ seen_same (contents s.areas) (contents t.areas) (variables s.format) m.lent m.room (λ p l. m.others p (omega arith))
 
@@ -160,19 +149,18 @@ module _ {V : Type 0} (K : Kind V) where
         by (Err e) = refl
 
   -- and before it another area was written
-  pub before : (n b : ℕ) (s mid t : Desk V) (xs : List (Row V)) (a : Result (List (Row V)) Refusal) (made : Result ℕ Refusal) → n ≤ b → contents mid.areas ≡ storing (contents s.areas) b xs → mid.format ≡ s.format → (Tidy K s.areas → Tidy K mid.areas) → Making K n mid t a made → Making K n s t a made
-  before n b s mid t xs a made low is format tidy m = record {
+  pub before : (n b : ℕ) (s mid t : Desk V G) (xs : List (Row V)) (a : Result (List (Row V)) Refusal) (made : Result ℕ Refusal) → n ≤ b → contents mid.areas ≡ storing (contents s.areas) b xs → mid.format ≡ s.format → Making n mid t a made → Making n s t a made
+  before n b s mid t xs a made low is format m = record {
     result = m.result;
     others = λ o l. m.others o l ∙ ap (λ c. c.tables o) is ∙ table-other (contents s.areas) b xs o (λ e. omega arith);
     lent = m.lent ∙ ap (λ c. c.lent) is;
     room = m.room ∙ ap (λ c. c.room) is;
     format = m.format ∙ format;
-    tidy = λ x. m.tidy (tidy x);
   }
 
   -- one row, pushed to the emptied area 8
-  pub pushed-one : (s : Desk V) (mid : Areas V) (t : Desk V) (x : Row V) (answer : Result (Unit {0}) Refusal) (made : Result ℕ Refusal) → contents mid ≡ storing (contents s.areas) 8 [] → contents t.areas ≡ held (contents mid) 8 (pushed (contents mid) 8 x) → t.format ≡ s.format → (Tidy K s.areas → Tidy K t.areas) → answer ≡ answered (pushed (contents mid) 8 x) → made ≡ made_in 8 answer → Making K 8 s t (limited (state s).room (Ok (x ∷ []))) made
-  pushed-one s mid t x answer made cleared is format tidy answers makes =
+  pub pushed-one : (s : Desk V G) (mid : Areas V G) (t : Desk V G) (x : Row V) (answer : Result (Unit {0}) Refusal) (made : Result ℕ Refusal) → contents mid ≡ storing (contents s.areas) 8 [] → contents t.areas ≡ held (contents mid) 8 (pushed (contents mid) 8 x) → t.format ≡ s.format → answer ≡ answered (pushed (contents mid) 8 x) → made ≡ made_in 8 answer → Making 8 s t (limited (state s).room (Ok (x ∷ []))) made
+  pushed-one s mid t x answer made cleared is format answers makes =
       let c = contents s.areas in
       let one : pushed (contents mid) 8 x ≡ limited c.room (Ok (x ∷ [])) = ap (λ d. limited d.room (Ok (d.tables 8 ++ x ∷ []))) cleared in
       record {
@@ -181,7 +169,6 @@ module _ {V : Type 0} (K : Kind V) where
         lent = ap (λ d. d.lent) (is ∙ (λ i. held (cleared i) 8 (one i))) ∙ kept-lent (limited c.room (Ok (x ∷ [])));
         room = ap (λ d. d.room) (is ∙ (λ i. held (cleared i) 8 (one i))) ∙ kept-room (limited c.room (Ok (x ∷ [])));
         format = format;
-        tidy = tidy;
       }
     where
       there : (a : Result (List (Row V)) Refusal) → contents t.areas ≡ held (storing (contents s.areas) 8 []) 8 a → made_of (contents t.areas) (made_in 8 (answered a)) ≡ a

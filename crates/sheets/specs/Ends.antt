@@ -3,12 +3,12 @@
 --     ended made                  what the call answers
 --     finished s c r made         the state s with the table of that area in the place r, where the areas hold c; s itself after a refusal
 --     made_of c made              the table of that area, where the areas hold c, or the refusal
---     Making K n s t a made       steps took the desk s to t and made the rows of a, or its refusal: the areas below n hold what they held. The places are those below 8
+--     Making n s t a made         steps took the desk s to t and made the rows of a, or its refusal: the areas below n hold what they held. The places are those below 8
 use Rattle.std.specs.Prelude.{◌≡◌, ℕ, ◌<◌, List, Ok, Err, Result}
 use Rattle.refusals.specs.declared.Refusal.{Refusal}
-use Rattle.rings.specs.Kinds.{Kind}
+use Rattle.rings.specs.declared.ring.Ring.{Ghosts}
 use Rattle.rows.specs.declared.Row.{Row}
-use Rattle.areas.specs.Areas.{Contents, contents, Tidy}
+use Rattle.areas.specs.Areas.{Contents, contents}
 use Rattle.sheets.specs.States.{State, stored}
 use Rattle.sheets.specs.declared.desk.Desk.{Desk}
 
@@ -28,10 +28,9 @@ abbrev pub made_of : {V : Type 0} → Contents V → Result ℕ Refusal → Resu
 made_of c (Ok a) = Ok (c.tables a)
 made_of c (Err e) = Err e
 
-pub record Making {V : Type 0} (K : Kind V) (n : ℕ) (s t : Desk V) (a : Result (List (Row V)) Refusal) (made : Result ℕ Refusal) : Type 0 where
+pub record Making {V : Type 0} {G : Ghosts V} (n : ℕ) (s t : Desk V G) (a : Result (List (Row V)) Refusal) (made : Result ℕ Refusal) : Type 0 where
   pub result : made_of (contents t.areas) made ≡ a
   pub others : (o : ℕ) → o < n → (contents t.areas).tables o ≡ (contents s.areas).tables o
   pub lent : (contents t.areas).lent ≡ (contents s.areas).lent
   pub room : (contents t.areas).room ≡ (contents s.areas).room
   pub format : t.format ≡ s.format
-  pub tidy : Tidy K s.areas → Tidy K t.areas

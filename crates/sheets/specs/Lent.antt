@@ -19,13 +19,14 @@ use Rattle.std.specs.List.{range_with_len}
 use Rattle.refusals.specs.declared.Refusal.{Refusal}
 use Rattle.refusals.specs.declared.Refusal.TheVariants.{Place}
 use Rattle.rings.specs.Kinds.{Kind}
+use Rattle.rings.specs.declared.ring.Ring.{Ghosts}
 use Rattle.formats.specs.Drafts.{variables}
 use Rattle.formats.specs.Keys.{unit}
 use Rattle.formats.specs.declared.variable.Variable.{Variable}
 use Rattle.rows.specs.Lists.{part, put}
 use Rattle.rows.specs.Tables.{blank, row, sum, limited}
 use Rattle.rows.specs.declared.Row.{Row}
-use Rattle.areas.specs.Areas.{capacity}
+use Rattle.areas.specs.Shares.{capacity}
 use Rattle.sheets.specs.States.{placed}
 use Rattle.sheets.specs.Desks.{state}
 use Rattle.sheets.specs.Calls.{all_placed}
@@ -36,7 +37,7 @@ pub record Lent (V : Type 0) : Type 0 where
   pub counts : List ℕ
   pub vars : List Variable
 
-abbrev pub lent_of : {V : Type 0} → Desk V → Lent V
+abbrev pub lent_of : {V : Type 0} {G : Ghosts V} → Desk V G → Lent V
 lent_of s = record { rows = s.areas.rows.now; counts = map (λ p. length ((state s).places p)) (range_with_len 0 8); vars = variables s.format }
 
 abbrev pub room : {V : Type 0} → Lent V → ℕ

@@ -1,6 +1,5 @@
 -- The running table of a desk, to which terms are added one by one. It is in a working area.
 --     running s             the rows of it
---     Neat K s              every lent row of the desk s that is a row neither of a place nor of a working area is blank
 --     follows k x xs        whether the key k is below that of the last row of x ∷ xs
 --     below_last k xs       whether k is below the key of the last row of xs, or xs is empty
 --     entering K c xs x     the table xs with the row x added: after its last row, if the key of x is below that, else by the sum; a refusal if a coefficient does not fit or the rows are more than c
@@ -9,17 +8,15 @@ use Rattle.std.specs.Prelude.{ℕ, Bool, true, cond, List, [], ◌∷◌, ◌++�
 use Rattle.refusals.specs.declared.Refusal.{Refusal}
 use Rattle.refusals.specs.declared.Refusal.TheVariants.{Place}
 use Rattle.rings.specs.Kinds.{Kind}
+use Rattle.rings.specs.declared.ring.Ring.{Ghosts}
 use Rattle.rows.specs.Tables.{sum, limited}
 use Rattle.rows.specs.declared.Row.{Row}
-use Rattle.areas.specs.Areas.{contents, Tidy}
+use Rattle.areas.specs.Areas.{contents}
 use Rattle.sheets.specs.States.{placed}
 use Rattle.sheets.specs.declared.desk.Desk.{Desk}
 
-abbrev pub running : {V : Type 0} → Desk V → List (Row V)
+abbrev pub running : {V : Type 0} {G : Ghosts V} → Desk V G → List (Row V)
 running s = (contents s.areas).tables 8
-
-abbrev pub Neat : {V : Type 0} → Kind V → Desk V → Type 0
-Neat K s = Tidy K s.areas
 
 abbrev pub follows : {V : Type 0} → ℕ → Row V → List (Row V) → Bool
 follows k x [] = nat_lt k x.key
@@ -32,5 +29,5 @@ below_last k (x ∷ xs) = follows k x xs
 abbrev pub entering : {V : Type 0} → Kind V → ℕ → List (Row V) → Row V → Result (List (Row V)) Refusal
 entering K c xs x = cond (below_last x.key xs) (limited c (Ok (xs ++ x ∷ []))) (limited c (sum K xs (x ∷ [])))
 
-abbrev pub storing_running : {V : Type 0} → Desk V → ℕ → Result (List (Row V)) Refusal
+abbrev pub storing_running : {V : Type 0} {G : Ghosts V} → Desk V G → ℕ → Result (List (Row V)) Refusal
 storing_running s p = cond (placed p) (Ok (running s)) (Err Place)

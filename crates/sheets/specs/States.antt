@@ -9,7 +9,8 @@ use Rattle.std.specs.Prelude.{ℕ, Bool, cond, List, [], Ok, Err, Result, ◌==�
 use Rattle.refusals.specs.declared.Refusal.{Refusal}
 use Rattle.formats.specs.declared.variable.Variable.{Variable}
 use Rattle.rows.specs.declared.Row.{Row}
-use Rattle.areas.specs.Areas.{Contents, capacity}
+use Rattle.areas.specs.Shares.{capacity}
+use Rattle.areas.specs.Areas.{Contents}
 
 pub record State (V : Type 0) : Type 0 where
   pub lent : ℕ

@@ -12,7 +12,7 @@ use refusals::Refusal;
 use rings::Ring;
 use rows::Row;
 
-impl<K> Desk<'_, K> {
+impl<K: Ring> Desk<'_, K> {
     // The format of the sheet.
     pub fn format(&self) -> Format
         ensures { variables result ≡ (desks.state self.now).vars }

@@ -22,7 +22,7 @@ impl<K: Ring> Desk<'_, K> {
         requires callable { F.IsAlwaysCallable change }
         requires low { 8 ≤ to }
         requires high { to < 12 }
-        ensures kept { Kept K.kind (but to) self.old self.new }
+        ensures kept { Kept (but to) self.old self.new }
         ensures made { Changes (F.post change) (table self.old from.area) (made_of (contents self.new.areas) (made_in to result)) }
     {
         self.areas.clear(to);

@@ -46,7 +46,7 @@ fn opposite<K: Ring>(row: Row<K>) -> Row<K>
 impl<K: Domain> Desk<'_, K> {
     // Divides the table in an area by that of another, leading row by leading row, and answers the area of the quotient.
     pub(crate) fn quotient_in(&mut self, left: Place, right: Place) -> Result<usize, Refusal>
-        ensures { Making K.Ring.kind 8 self.old self.new (quotient_rows K.Ring.kind K.quotient (desks.state self.old).vars (desks.state self.old).room (table self.old left.area) (table self.old right.area)) result }
+        ensures { Making 8 self.old self.new (quotient_rows K.Ring.kind K.quotient (desks.state self.old).vars (desks.state self.old).room (table self.old left.area) (table self.old right.area)) result }
     {
         let by = first_row(self.areas.table(right.area)).ok_or(Refusal::ZeroDivisor)?;
         let greatest = greatest_of(&self.format, self.areas.table(right.area));

@@ -1,6 +1,6 @@
 // The end of a call.
 ghost use Rattle.std.specs.Prelude.{◌≡◌};
-ghost use Rattle.areas.specs.Areas.{contents, Tidy};
+ghost use Rattle.areas.specs.Areas.{contents};
 ghost use Rattle.sheets.specs.Desks.{state, Blank};
 ghost use Rattle.sheets.specs.Ends.{made_in, ended, finished};
 
@@ -20,7 +20,7 @@ impl<K: Ring> Desk<'_, K> {
     // Empties the working areas.
     pub(crate) fn sweep(&mut self)
         ensures leaves { state self.new ≡ state self.old }
-        ensures blank { Tidy K.kind self.old.areas → Blank K.kind self.new }
+        ensures blank { Blank self.new }
     {
         self.areas.clear(8);
         self.areas.clear(9);
@@ -32,7 +32,7 @@ impl<K: Ring> Desk<'_, K> {
     pub(crate) fn finish(&mut self, res: Place, made: Result<usize, Refusal>) -> Result<(), Refusal>
         ensures answer { result ≡ ended made }
         ensures leaves { state self.new ≡ finished (state self.old) (contents self.old.areas) res.area made }
-        ensures blank { Tidy K.kind self.old.areas → Blank K.kind self.new }
+        ensures blank { Blank self.new }
     {
         if let Ok(area) = made {
             self.areas.copy(res.area, area);

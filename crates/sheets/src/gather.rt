@@ -13,7 +13,7 @@ use rows::Row;
 impl<K: Ring> Desk<'_, K> {
     // Makes the rows of a place whose products with a row the truncation keeps the table of the area 9.
     pub(crate) fn gather(&mut self, left: Place, row: Row<K>, truncation: Truncation)
-        ensures kept { Kept K.kind (but 9) self.old self.new }
+        ensures kept { Kept (but 9) self.old self.new }
         ensures rows { table self.new 9 ≡ near (state self.old).vars truncation.count truncation.most (table self.old left.area) row }
     {
         let format = self.format;

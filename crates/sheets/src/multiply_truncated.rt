@@ -27,7 +27,7 @@ impl<K: Ring> Desk<'_, K> {
         right: Place,
         truncation: Truncation,
     ) -> Result<usize, Refusal>
-        ensures { Making K.kind 9 self.old self.new (product_truncated K.kind (desks.state self.old).vars (desks.state self.old).room truncation.count truncation.most (table self.old left.area) (table self.old right.area)) result }
+        ensures { Making 9 self.old self.new (product_truncated K.kind (desks.state self.old).vars (desks.state self.old).room truncation.count truncation.most (table self.old left.area) (table self.old right.area)) result }
     {
         self.areas.clear(10);
         let mut at = 10;

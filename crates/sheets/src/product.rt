@@ -37,7 +37,7 @@ impl<K: Ring> Desk<'_, K> {
         requires low { 10 ≤ at }
         requires high { at ≤ 11 }
         requires factors { factors < 10 }
-        ensures makes { Making K.kind 10 self.old self.new (turned K.kind (state self.old).vars (state self.old).room greatest.now (table self.old at) (table self.old factors) row) result }
+        ensures makes { Making 10 self.old self.new (turned K.kind (state self.old).vars (state self.old).room greatest.now (table self.old at) (table self.old factors) row) result }
         ensures area { result ≡ made_in (21 - at) (answered (turned K.kind (state self.old).vars (state self.old).room greatest.now (table self.old at) (table self.old factors) row)) }
     {
         if !self.format.allows(greatest, row.key) {
@@ -51,7 +51,7 @@ impl<K: Ring> Desk<'_, K> {
     pub(crate) fn product_in(&mut self, left: usize, right: usize) -> Result<usize, Refusal>
         requires left { left < 10 }
         requires right { right < 10 }
-        ensures { Making K.kind 10 self.old self.new (product K.kind (state self.old).vars (state self.old).room (table self.old left) (table self.old right)) result }
+        ensures { Making 10 self.old self.new (product K.kind (state self.old).vars (state self.old).room (table self.old left) (table self.old right)) result }
     {
         let greatest = greatest_of(&self.format, self.areas.table(left));
         self.areas.clear(10);

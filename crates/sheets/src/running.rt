@@ -4,7 +4,7 @@ ghost use Rattle.rows.specs.Tables.{row as row_of, sum, limited};
 ghost use Rattle.areas.specs.Areas.{answered, rows_of};
 ghost use Rattle.sheets.specs.States.{kept};
 ghost use Rattle.sheets.specs.Desks.{state, Blank};
-ghost use Rattle.sheets.specs.Running.{running, Neat, below_last, entering, storing_running};
+ghost use Rattle.sheets.specs.Running.{running, below_last, entering, storing_running};
 
 use crate::desk::Desk;
 use crate::place::Place;
@@ -24,7 +24,6 @@ impl<K: Ring> Desk<'_, K> {
     pub fn begin(&mut self)
         ensures empty { running self.new ≡ [] }
         ensures leaves { state self.new ≡ state self.old }
-        ensures neat { Neat K.kind self.old → Neat K.kind self.new }
     {
         self.areas.clear(8);
     }
@@ -35,7 +34,6 @@ impl<K: Ring> Desk<'_, K> {
         ensures answer { result ≡ answered (limited (state self.old).room (sum K.kind (running self.old) (row ∷ []))) }
         ensures made { running self.new ≡ rows_of (limited (state self.old).room (sum K.kind (running self.old) (row ∷ []))) }
         ensures leaves { state self.new ≡ state self.old }
-        ensures neat { Neat K.kind self.old → Neat K.kind self.new }
     {
         self.areas.clear(10);
         self.areas.push(10, row)?;
@@ -49,7 +47,6 @@ impl<K: Ring> Desk<'_, K> {
         ensures answer { result ≡ answered (entering K.kind (state self.old).room (running self.old) (row_of key coefficient)) }
         ensures made { running self.new ≡ rows_of (entering K.kind (state self.old).room (running self.old) (row_of key coefficient)) }
         ensures leaves { state self.new ≡ state self.old }
-        ensures neat { Neat K.kind self.old → Neat K.kind self.new }
     {
         let row = Row { key, coefficient };
         if !below_last(key, self.areas.table(8)) {
@@ -66,7 +63,7 @@ impl<K: Ring> Desk<'_, K> {
     pub fn store(&mut self, place: usize) -> Result<(), Refusal>
         ensures answer { result ≡ answered (storing_running self.old place) }
         ensures leaves { state self.new ≡ kept (state self.old) place (storing_running self.old place) }
-        ensures blank { Neat K.kind self.old → Blank K.kind self.new }
+        ensures blank { Blank self.new }
     {
         match Place::try_from(place) {
             Ok(place) => self.finish(place, Ok(8)),
@@ -80,7 +77,7 @@ impl<K: Ring> Desk<'_, K> {
     // Gives the running table up.
     pub fn abandon(&mut self)
         ensures leaves { state self.new ≡ state self.old }
-        ensures blank { Neat K.kind self.old → Blank K.kind self.new }
+        ensures blank { Blank self.new }
     {
         self.sweep();
     }

@@ -8,5 +8,5 @@ use rings::Ring;
 #[derive(Drop)]
 pub struct Sheet<'a, K: Ring> {
     pub desk: Desk<'a, K>,
-    ghost at_rest: { Blank K.kind desk },
+    ghost at_rest: { Blank desk },
 }

@@ -24,7 +24,7 @@ use rows::Row;
 impl<K: Ring> Desk<'_, K> {
     // Multiplies the table in the area 9 by that of another area, `power` times over.
     pub(crate) fn raise(&mut self, right: Place, power: u16) -> Result<(), Refusal>
-        ensures { Making K.kind 9 self.old self.new (raised K.kind (desks.state self.old).vars (desks.state self.old).room (table self.old right.area) (table self.old 9) power) (made_in 9 result) }
+        ensures { Making 9 self.old self.new (raised K.kind (desks.state self.old).vars (desks.state self.old).room (table self.old right.area) (table self.old 9) power) (made_in 9 result) }
     {
         for _ in 0..power {
             let at = self.product_in(9, right.area)?;
@@ -38,7 +38,7 @@ impl<K: Ring> Desk<'_, K> {
     pub(crate) fn begin_term(&mut self, variable: usize, row: Row<K>) -> Result<(), Refusal>
         requires variable { variable < length (desks.state self.old).vars }
         requires room { 0 < (desks.state self.old).room }
-        ensures { Making K.kind 9 self.old self.new (Ok (row_of (with_power (desks.state self.old).vars variable 0 row) row.coefficient ∷ [])) (made_in 9 result) }
+        ensures { Making 9 self.old self.new (Ok (row_of (with_power (desks.state self.old).vars variable 0 row) row.coefficient ∷ [])) (made_in 9 result) }
     {
         let key = self.format.replace(row.key, variable, 0)?;
         self.areas.clear(9);
@@ -56,7 +56,7 @@ impl<K: Ring> Desk<'_, K> {
     ) -> Result<(), Refusal>
         requires variable { variable < length (desks.state self.old).vars }
         requires room { 0 < (desks.state self.old).room }
-        ensures { Making K.kind 8 self.old self.new (continued (term_raised K.kind (desks.state self.old).vars (desks.state self.old).room variable (table self.old right.area) row) (λ ts. limited (desks.state self.old).room (sum K.kind (table self.old 8) ts))) (made_in 8 result) }
+        ensures { Making 8 self.old self.new (continued (term_raised K.kind (desks.state self.old).vars (desks.state self.old).room variable (table self.old right.area) row) (λ ts. limited (desks.state self.old).room (sum K.kind (table self.old 8) ts))) (made_in 8 result) }
     {
         let power = self.format.exponent(row.key, variable);
         self.begin_term(variable, row)?;
@@ -75,7 +75,7 @@ impl<K: Ring> Desk<'_, K> {
         variable: usize,
     ) -> Result<usize, Refusal>
         requires { variable < length (desks.state self.old).vars }
-        ensures { Making K.kind 8 self.old self.new (substituted_rows K.kind (desks.state self.old).vars (desks.state self.old).room variable (table self.old right.area) [] (table self.old left.area)) result }
+        ensures { Making 8 self.old self.new (substituted_rows K.kind (desks.state self.old).vars (desks.state self.old).room variable (table self.old right.area) [] (table self.old left.area)) result }
     {
         self.areas.clear(8);
         // By index: the rows of all areas are lent together, and the body writes to them.

@@ -21,7 +21,7 @@ use rows::Row;
 impl<K: Ring> Desk<'_, K> {
     // Makes one row, in a working area.
     pub(crate) fn single(&mut self, key: u64, coefficient: K) -> Result<usize, Refusal>
-        ensures { Making K.kind 8 self.old self.new (limited (desks.state self.old).room (Ok (row key coefficient ∷ []))) result }
+        ensures { Making 8 self.old self.new (limited (desks.state self.old).room (Ok (row key coefficient ∷ []))) result }
     {
         self.areas.clear(8);
         made_in(8, self.areas.push(8, Row { key, coefficient }))

@@ -14,17 +14,16 @@ use Rattle.sheets.proofs.desk.Desk.add_term.Goals as goal
 use Rattle.sheets.proofs.desk.Desk.add_term.Goals.{After-raise}
 
 -- the table of the row
-raised : (g : given.Over) (c : After-raise g) → Making g.K.Ring.kind 9 c.args.self.now c.raise.new.self (term_raised g.K.Ring.kind (variables c.args.self.now.format) (contents c.args.self.now.areas).room c.args.variable (table c.args.self.now c.args.right.area) c.args.row) (made_in 9 c.raise.result)
+raised : (g : given.Over) (c : After-raise g) → Making 9 c.args.self.now c.raise.new.self (term_raised g.K.Ring.kind (variables c.args.self.now.format) (contents c.args.self.now.areas).room c.args.variable (table c.args.self.now c.args.right.area) c.args.row) (made_in 9 c.raise.result)
 raised g c =
     let K = g.K.Ring.kind in
     let s = c.args.self.now in
     let t = c.begin_term.new.self in
-    row-raised K s t c.raise.new.self c.args.right.area (omega arith) _ c.exponent-power.result _ c.raise.result (subst (Making K 9 s t _) (ap (made_in 9) c.in_ok-begin_term.was) c.begin_term.ensures) c.exponent-power.ensures c.raise.ensures
+    row-raised K s t c.raise.new.self c.args.right.area (omega arith) _ c.exponent-power.result _ c.raise.result (subst (Making 9 s t _) (ap (made_in 9) c.in_ok-begin_term.was) c.begin_term.ensures) c.exponent-power.ensures c.raise.ensures
 
 pub returns-in_err-begin_term : goal.returns-in_err-begin_term
 returns-in_err-begin_term g c =
-    let K = g.K.Ring.kind in
-    let m = subst (Making K 9 c.args.self.now c.begin_term.new.self _) (ap (made_in 9) c.in_err-begin_term.was) c.begin_term.ensures in
+    let m = subst (Making 9 c.args.self.now c.begin_term.new.self _) (ap (made_in 9) c.in_err-begin_term.was) c.begin_term.ensures in
     absurd (not_refused _ _ m.result)
 
 pub returns-in_err-raise : goal.returns-in_err-raise
@@ -32,9 +31,9 @@ returns-in_err-raise g c =
     let K = g.K.Ring.kind in
     let s = c.args.self.now in
     let u = c.raise.new.self in
-    let m = subst (Making K 9 s u _) (ap (made_in 9) c.in_err-raise.was) (raised g (goal.at.returns-in_err-raise g c).After-raise) in
+    let m = subst (Making 9 s u _) (ap (made_in 9) c.in_err-raise.was) (raised g (goal.at.returns-in_err-raise g c).After-raise) in
     let p = err_from_is_err_and c.from_residual-in_err-raise.result c.from_residual-in_err-raise.ensures.1 in
-    subst (Making K 8 s u _) (sym (ap (made_in 8) (p.1 ∙ ap Err p.2))) (row-refused K s _ u c.in_err-raise.field-0.0 m)
+    subst (Making 8 s u _) (sym (ap (made_in 8) (p.1 ∙ ap Err p.2))) (row-refused K s _ u c.in_err-raise.field-0.0 m)
 
 pub returns-in_err-add : goal.returns-in_err-add
 returns-in_err-add g c =
@@ -42,9 +41,9 @@ returns-in_err-add g c =
     let s = c.args.self.now in
     let t = c.raise.new.self in
     let u = with_areas t c.add.new.self in
-    let m = subst (Making K 9 s t _) (ap (made_in 9) c.in_ok-raise.was) (raised g (goal.at.returns-in_err-add g c).After-raise) in
+    let m = subst (Making 9 s t _) (ap (made_in 9) c.in_ok-raise.was) (raised g (goal.at.returns-in_err-add g c).After-raise) in
     let p = err_from_is_err_and c.from_residual-in_err-add.result c.from_residual-in_err-add.ensures.1 in
-    subst (Making K 8 s u _) (sym (ap (made_in 8) (p.1 ∙ ap Err p.2))) (row-over K s _ t u m c.add.result c.add.ensures.answer (kept-stored K t u 10 _ c.add.ensures.leaves refl c.add.ensures.tidy) c.in_err-add.field-0.0 c.in_err-add.was)
+    subst (Making 8 s u _) (sym (ap (made_in 8) (p.1 ∙ ap Err p.2))) (row-over K s _ t u m c.add.result c.add.ensures.answer (kept-stored t u 10 _ c.add.ensures.leaves refl) c.in_err-add.field-0.0 c.in_err-add.was)
 
 pub returns : goal.returns
 returns g c =
@@ -53,5 +52,5 @@ returns g c =
     let t = c.raise.new.self in
     let u = with_areas t c.add.new.self in
     let v = with_areas t c.copy.new.self in
-    let m = subst (Making K 9 s t _) (ap (made_in 9) c.in_ok-raise.was) (raised g (goal.at.returns g c).After-raise) in
-    row_summed K s _ t u m c.add.result c.add.ensures.answer c.add.ensures.leaves (kept-stored K t u 10 _ c.add.ensures.leaves refl c.add.ensures.tidy) c.in_ok-add.was v c.copy.ensures.leaves (kept-stored K u v 8 _ c.copy.ensures.leaves refl c.copy.ensures.tidy)
+    let m = subst (Making 9 s t _) (ap (made_in 9) c.in_ok-raise.was) (raised g (goal.at.returns g c).After-raise) in
+    row_summed K s _ t u m c.add.result c.add.ensures.answer c.add.ensures.leaves (kept-stored t u 10 _ c.add.ensures.leaves refl) c.in_ok-add.was v c.copy.ensures.leaves (kept-stored u v 8 _ c.copy.ensures.leaves refl)

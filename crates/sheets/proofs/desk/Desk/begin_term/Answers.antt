@@ -16,7 +16,6 @@ returns-in_err-key g c =
 
 pub returns : goal.returns
 returns g c =
-    let K = g.K.Ring.kind in
     let s = c.args.self.now in
     let mid = with_areas s c.clear.new.self in
     let t = with_areas s c.push.new.self in
@@ -24,5 +23,5 @@ returns g c =
     let x = row c.in_ok-key.key c.args.row.coefficient in
     let e : ◌≡◌ {A = Result ℕ Refusal} (Ok c.in_ok-key.key) (Ok k) = sym c.in_ok-key.was ∙ c.replace.ensures ∙ without (variables s.format) c.args.variable c.args.row.key c.requires.variable in
     let f : c.in_ok-key.key ≡ k = cc in
-    subst (λ n. Making K 9 s t (Ok (row n c.args.row.coefficient ∷ [])) (made_in 9 c.push.result)) f
-    (begun K s mid t x c.push.result c.requires.room c.clear.ensures.leaves (kept-stored K s mid 9 [] c.clear.ensures.leaves refl c.clear.ensures.tidy) c.push.ensures.leaves refl c.push.ensures.tidy c.push.ensures.answer)
+    subst (λ n. Making 9 s t (Ok (row n c.args.row.coefficient ∷ [])) (made_in 9 c.push.result)) f
+    (begun s mid t x c.push.result c.requires.room c.clear.ensures.leaves (kept-stored s mid 9 [] c.clear.ensures.leaves refl) c.push.ensures.leaves refl c.push.ensures.answer)

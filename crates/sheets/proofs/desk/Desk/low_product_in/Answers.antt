@@ -32,7 +32,7 @@ taken g c =
     let l = c.gather.ensures.kept in
     let rows : table mid 9 ≡ pick y = c.gather.ensures.rows ∙ (λ i. near (variables (k.format i)) c.args.truncation.count n (k.others c.args.left.area (omega arith) i) y) in
     let most : c.greatest_of-greatest.result ≡ highest vs (replicate 8 0) (pick y) = c.greatest_of-greatest.ensures ∙ (λ i. highest (variables ((l.format ∙ k.format) i)) (replicate 8 0) ((c.table-in-loop-i.ensures ∙ rows) i)) in
-    turn_taken K 9 pick (table start c.args.right.area) start (omega arith) t mid c.turn.new.self c.loop-i.at c.loop-i.i 9 c.greatest_of-greatest.result y c.turn.result c.loop-i.invariant (kept_fewer K (but 9) (below 9) t mid (λ o h e. omega arith) l) (l.others c.loop-i.at (λ e. omega (arith, c.loop-i.invariant.low))) rows most c.turn.ensures.makes c.turn.ensures.area
+    turn_taken K 9 pick (table start c.args.right.area) start (omega arith) t mid c.turn.new.self c.loop-i.at c.loop-i.i 9 c.greatest_of-greatest.result y c.turn.result c.loop-i.invariant (kept_fewer (but 9) (below 9) t mid (λ o h e. omega arith) l) (l.others c.loop-i.at (λ e. omega (arith, c.loop-i.invariant.low))) rows most c.turn.ensures.makes c.turn.ensures.area
 
 pub returns-in_err-at : goal.returns-in_err-at
 returns-in_err-at g c =
@@ -40,11 +40,11 @@ returns-in_err-at g c =
     let s = c.args.self.now in
     let start = with_areas s c.clear.new.self in
     let u = c.turn.new.self in
-    let first = kept_fewer K (but 10) (below 9) s start (λ o h e. omega arith) (kept-stored K s start 10 [] c.clear.ensures.leaves refl c.clear.ensures.tidy) in
+    let first = kept_fewer (but 10) (below 9) s start (λ o h e. omega arith) (kept-stored s start 10 [] c.clear.ensures.leaves refl) in
     let rows = c.table.ensures ∙ c.loop-i.invariant.kept.others c.args.right.area (omega arith) in
     let refused = running-refused K 9 (near (state start).vars c.args.truncation.count c.args.truncation.most (table start c.args.left.area)) (table start c.args.right.area) start c.loop-i.self u c.loop-i.at c.loop-i.i c.loop-i.invariant (omega (arith, ap length c.table-i-end.ensures)) c.index-table-i.result (c.index-table-i.is ∙ ap (λ l. get_or l c.loop-i.i c.index-table-i.result) rows) c.turn.result (taken g (goal.at.returns-in_err-at g c).After-turn) c.in_err-at.field-0.0 c.in_err-at.was in
     let p = err_from_is_err_and c.from_residual.result c.from_residual.ensures.1 in
-    subst (Making K 9 s u _) (sym (p.1 ∙ ap Err p.2)) (making_after K 9 s start u _ _ _ first (λ i. product_truncated K (state s).vars (first.room i) c.args.truncation.count c.args.truncation.most (first.others c.args.left.area (omega arith) i) (first.others c.args.right.area (omega arith) i)) refused)
+    subst (Making 9 s u _) (sym (p.1 ∙ ap Err p.2)) (making_after 9 s start u _ _ _ first (λ i. product_truncated K (state s).vars (first.room i) c.args.truncation.count c.args.truncation.most (first.others c.args.left.area (omega arith) i) (first.others c.args.right.area (omega arith) i)) refused)
 
 pub loop-i-preserved : goal.loop-i-preserved
 loop-i-preserved g c =
@@ -58,6 +58,6 @@ returns g c =
     let K = g.K.Ring.kind in
     let s = c.args.self.now in
     let start = with_areas s c.clear.new.self in
-    let first = kept_fewer K (but 10) (below 9) s start (λ o h e. omega arith) (kept-stored K s start 10 [] c.clear.ensures.leaves refl c.clear.ensures.tidy) in
+    let first = kept_fewer (but 10) (below 9) s start (λ o h e. omega arith) (kept-stored s start 10 [] c.clear.ensures.leaves refl) in
     let all = running_all K 9 (near (state start).vars c.args.truncation.count c.args.truncation.most (table start c.args.left.area)) (table start c.args.right.area) start c.loop-i.self c.loop-i.at c.loop-i.i c.loop-i.invariant (omega (arith, ap length c.table-i-end.ensures)) in
-    making_after K 9 s start c.loop-i.self _ _ _ first (λ i. product_truncated K (state s).vars (first.room i) c.args.truncation.count c.args.truncation.most (first.others c.args.left.area (omega arith) i) (first.others c.args.right.area (omega arith) i)) all
+    making_after 9 s start c.loop-i.self _ _ _ first (λ i. product_truncated K (state s).vars (first.room i) c.args.truncation.count c.args.truncation.most (first.others c.args.left.area (omega arith) i) (first.others c.args.right.area (omega arith) i)) all

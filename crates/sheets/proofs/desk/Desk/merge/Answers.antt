@@ -29,5 +29,4 @@ returns g c =
       answer = c.add-answer.ensures.answer ∙ ap answered (merged_sum K c₀ c₁ c.args.row e₁ c.requires few c₂ c₃ c₄ e₂ e₃ e₄);
       made = merged_rows K c₀ c₁ c.args.row e₁ c.requires few c₂ c₃ c₄ e₂ e₃ e₄;
       leaves = merged_state K c₀ c₁ c.args.row e₁ c.requires few c₂ c₃ c₄ e₂ e₃ e₄ (variables s.format);
-      neat = λ t. c.copy.ensures.tidy (c.add-answer.ensures.tidy (c.push.ensures.tidy (c.clear.ensures.tidy t)));
     }

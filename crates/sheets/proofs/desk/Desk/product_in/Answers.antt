@@ -23,9 +23,9 @@ taken g c =
     let start = with_areas s c.clear.new.self in
     let t = c.loop-i.self in
     let xs = table start c.args.left in
-    let first = kept-stored K s start 10 [] c.clear.ensures.leaves refl c.clear.ensures.tidy in
+    let first = kept-stored s start 10 [] c.clear.ensures.leaves refl in
     let most : c.greatest_of-greatest.result ≡ highest (state start).vars (replicate 8 0) xs = c.greatest_of-greatest.ensures ∙ ap (highest (state start).vars (replicate 8 0)) (c.table.ensures ∙ sym (first.others c.args.left (λ e. omega arith))) in
-    turn_taken K 10 (always xs) (table start c.args.right) start (omega arith) t t c.turn.new.self c.loop-i.at c.loop-i.i c.args.left c.greatest_of-greatest.result c.index-table-i.result c.turn.result c.loop-i.invariant (kept_same K (below 10) t) refl (c.loop-i.invariant.kept.others c.args.left c.requires.left) most c.turn.ensures.makes c.turn.ensures.area
+    turn_taken K 10 (always xs) (table start c.args.right) start (omega arith) t t c.turn.new.self c.loop-i.at c.loop-i.i c.args.left c.greatest_of-greatest.result c.index-table-i.result c.turn.result c.loop-i.invariant (kept_same (below 10) t) refl (c.loop-i.invariant.kept.others c.args.left c.requires.left) most c.turn.ensures.makes c.turn.ensures.area
 
 pub returns-in_err-at : goal.returns-in_err-at
 returns-in_err-at g c =
@@ -33,11 +33,11 @@ returns-in_err-at g c =
     let s = c.args.self.now in
     let start = with_areas s c.clear.new.self in
     let u = c.turn.new.self in
-    let first = kept-stored K s start 10 [] c.clear.ensures.leaves refl c.clear.ensures.tidy in
+    let first = kept-stored s start 10 [] c.clear.ensures.leaves refl in
     let rows = c.table-in-loop-i.ensures ∙ c.loop-i.invariant.kept.others c.args.right c.requires.right in
     let refused = running-refused K 10 (always (table start c.args.left)) (table start c.args.right) start c.loop-i.self u c.loop-i.at c.loop-i.i c.loop-i.invariant (omega (arith, ap length c.table-i-end.ensures)) c.index-table-i.result (c.index-table-i.is ∙ ap (λ l. get_or l c.loop-i.i c.index-table-i.result) rows) c.turn.result (taken g (goal.at.returns-in_err-at g c).After-turn) c.in_err-at.field-0.0 c.in_err-at.was in
     let p = err_from_is_err_and c.from_residual.result c.from_residual.ensures.1 in
-    subst (Making K 10 s u _) (sym (p.1 ∙ ap Err p.2)) (making_after K 10 s start u _ _ _ (kept_fewer K (but 10) (below 10) s start (λ o h e. omega arith) first) (product-kept K s start first c.args.left c.args.right c.requires.left c.requires.right) refused)
+    subst (Making 10 s u _) (sym (p.1 ∙ ap Err p.2)) (making_after 10 s start u _ _ _ (kept_fewer (but 10) (below 10) s start (λ o h e. omega arith) first) (product-kept K s start first c.args.left c.args.right c.requires.left c.requires.right) refused)
 
 pub loop-i-preserved : goal.loop-i-preserved
 loop-i-preserved g c =
@@ -51,6 +51,6 @@ returns g c =
     let K = g.K.Ring.kind in
     let s = c.args.self.now in
     let start = with_areas s c.clear.new.self in
-    let first = kept-stored K s start 10 [] c.clear.ensures.leaves refl c.clear.ensures.tidy in
+    let first = kept-stored s start 10 [] c.clear.ensures.leaves refl in
     let all = running_all K 10 (always (table start c.args.left)) (table start c.args.right) start c.loop-i.self c.loop-i.at c.loop-i.i c.loop-i.invariant (omega (arith, ap length c.table-i-end.ensures)) in
-    making_after K 10 s start c.loop-i.self _ _ _ (kept_fewer K (but 10) (below 10) s start (λ o h e. omega arith) first) (product-kept K s start first c.args.left c.args.right c.requires.left c.requires.right) all
+    making_after 10 s start c.loop-i.self _ _ _ (kept_fewer (but 10) (below 10) s start (λ o h e. omega arith) first) (product-kept K s start first c.args.left c.args.right c.requires.left c.requires.right) all

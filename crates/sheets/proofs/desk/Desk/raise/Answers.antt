@@ -17,7 +17,7 @@ returns-in_err-at g c =
     let u = c.product_in.new.self in
     let refused = raising_refused K (table s c.args.right.area) (table s 9) s c.args.right.area (omega arith) refl c.loop.self u c.loop.counter c.loop.invariant c.product_in.result c.product_in.ensures c.in_err-at.field-0.0 c.in_err-at.was c.args.power c.loop-test.true in
     let p = err_from_is_err_and c.from_residual.result c.from_residual.ensures.1 in
-    subst (Making K 9 s u _) (sym (ap (made_in 9) (p.1 ∙ ap Err p.2))) refused
+    subst (Making 9 s u _) (sym (ap (made_in 9) (p.1 ∙ ap Err p.2))) refused
 
 pub loop-preserved : goal.loop-preserved
 loop-preserved g c =
@@ -25,7 +25,7 @@ loop-preserved g c =
     let s = c.args.self.now in
     let u = c.product_in.new.self in
     let v = with_areas u c.copy.new.self in
-    raising_more K (table s c.args.right.area) (table s 9) s c.args.right.area (omega arith) refl c.loop.self u c.loop.counter c.loop.invariant c.product_in.result c.product_in.ensures c.in_ok-at.at c.in_ok-at.was v c.copy.ensures.leaves (kept-stored K u v 9 _ c.copy.ensures.leaves refl c.copy.ensures.tidy)
+    raising_more K (table s c.args.right.area) (table s 9) s c.args.right.area (omega arith) refl c.loop.self u c.loop.counter c.loop.invariant c.product_in.result c.product_in.ensures c.in_ok-at.at c.in_ok-at.was v c.copy.ensures.leaves (kept-stored u v 9 _ c.copy.ensures.leaves refl)
 
 pub returns : goal.returns
 returns g c = let s = c.args.self.now in raising_all g.K.Ring.kind (table s c.args.right.area) (table s 9) s c.loop.self c.loop.counter c.args.power c.loop.invariant (omega arith)

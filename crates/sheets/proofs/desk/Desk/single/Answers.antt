@@ -7,4 +7,4 @@ pub returns : goal.returns
 returns g c =
     let s = c.args.self.now in
     let t = with_areas s c.push.new.self in
-    pushed-one g.K.Ring.kind s c.clear.new.self t (row c.args.key c.args.coefficient) c.push.result c.made_in.result c.clear.ensures.leaves c.push.ensures.leaves refl (λ x. c.push.ensures.tidy (c.clear.ensures.tidy x)) c.push.ensures.answer c.made_in.ensures
+    pushed-one s c.clear.new.self t (row c.args.key c.args.coefficient) c.push.result c.made_in.result c.clear.ensures.leaves c.push.ensures.leaves refl c.push.ensures.answer c.made_in.ensures

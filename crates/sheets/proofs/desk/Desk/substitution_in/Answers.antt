@@ -22,11 +22,11 @@ returns-in_err-add_term g c =
     let s = c.args.self.now in
     let start = with_areas s c.clear.new.self in
     let u = c.add_term.new.self in
-    let first = kept_fewer K (but 8) (below 8) s start (λ o h e. omega arith) (kept-stored K s start 8 [] c.clear.ensures.leaves refl c.clear.ensures.tidy) in
+    let first = kept_fewer (but 8) (below 8) s start (λ o h e. omega arith) (kept-stored s start 8 [] c.clear.ensures.leaves refl) in
     let rows = c.table.ensures ∙ c.loop-i.invariant.kept.others c.args.left.area c.args.left.placed in
     let refused = summing_refused K c.args.variable (table start c.args.right.area) (table start c.args.left.area) start c.args.right.area c.args.right.placed refl c.loop-i.self u c.loop-i.i c.loop-i.invariant (omega (arith, ap length c.table-i-end.ensures)) c.index-table-i.result (c.index-table-i.is ∙ ap (λ l. get_or l c.loop-i.i c.index-table-i.result) rows) c.add_term.result c.add_term.ensures c.in_err-add_term.field-0.0 c.in_err-add_term.was in
     let p = err_from_is_err_and c.from_residual.result c.from_residual.ensures.1 in
-    subst (Making K 8 s u _) (sym (p.1 ∙ ap Err p.2)) (making_after K 8 s start u _ _ _ first (λ i. substituted K (state s).vars (first.room i) c.args.variable (first.others c.args.right.area c.args.right.placed i) [] (first.others c.args.left.area c.args.left.placed i)) refused)
+    subst (Making 8 s u _) (sym (p.1 ∙ ap Err p.2)) (making_after 8 s start u _ _ _ first (λ i. substituted K (state s).vars (first.room i) c.args.variable (first.others c.args.right.area c.args.right.placed i) [] (first.others c.args.left.area c.args.left.placed i)) refused)
 
 pub loop-i-preserved : goal.loop-i-preserved
 loop-i-preserved g c =
@@ -40,6 +40,6 @@ returns g c =
     let K = g.K.Ring.kind in
     let s = c.args.self.now in
     let start = with_areas s c.clear.new.self in
-    let first = kept_fewer K (but 8) (below 8) s start (λ o h e. omega arith) (kept-stored K s start 8 [] c.clear.ensures.leaves refl c.clear.ensures.tidy) in
+    let first = kept_fewer (but 8) (below 8) s start (λ o h e. omega arith) (kept-stored s start 8 [] c.clear.ensures.leaves refl) in
     let all = summing_all K c.args.variable (table start c.args.right.area) (table start c.args.left.area) start c.loop-i.self c.loop-i.i c.loop-i.invariant (omega (arith, ap length c.table-i-end.ensures)) in
-    making_after K 8 s start c.loop-i.self _ _ _ first (λ i. substituted K (state s).vars (first.room i) c.args.variable (first.others c.args.right.area c.args.right.placed i) [] (first.others c.args.left.area c.args.left.placed i)) all
+    making_after 8 s start c.loop-i.self _ _ _ first (λ i. substituted K (state s).vars (first.room i) c.args.variable (first.others c.args.right.area c.args.right.placed i) [] (first.others c.args.left.area c.args.left.placed i)) all

@@ -16,8 +16,5 @@ returns g c =
     let e₁₁ = c.clear-4.ensures.leaves in
     record {
       leaves = swept_places was c₈ c₉ c₁₀ c₁₁ e₈ e₉ e₁₀ e₁₁ (variables c.args.self.now.format);
-      blank = λ t. record {
-        tidy = c.clear-4.ensures.tidy (c.clear-3.ensures.tidy (c.clear-2.ensures.tidy (c.clear.ensures.tidy t)));
-        working = swept_areas was c₈ c₉ c₁₀ c₁₁ e₈ e₉ e₁₀ e₁₁;
-      };
+      blank = swept_areas was c₈ c₉ c₁₀ c₁₁ e₈ e₉ e₁₀ e₁₁;
     }

@@ -18,5 +18,5 @@ returns-clause-makes g c =
     let a = scaling K (contents s.areas) to at c.args.factors c.args.row in
     let same : a ≡ turned K (state s).vars (state s).room c.args.greatest.now (table s at) (table s c.args.factors) c.args.row =
     cond-true _ _ _ (apart_areas to at c.args.factors (omega arith) (omega arith) (omega arith) (λ x. omega arith) (λ x. omega arith)) ∙ sym (cond-true _ _ _ (sym c.allows.ensures ∙ c.if-not-allows.false)) in
-    let m = passed K 10 to s t a c.add_scaled.result c.made_in.result (omega arith) (omega arith) c.add_scaled.ensures.leaves refl c.add_scaled.ensures.tidy c.add_scaled.ensures.answer c.made_in.ensures in
-    subst (λ x. Making K 10 s t x c.made_in.result) same m
+    let m = passed 10 to s t a c.add_scaled.result c.made_in.result (omega arith) (omega arith) c.add_scaled.ensures.leaves refl c.add_scaled.ensures.answer c.made_in.ensures in
+    subst (λ x. Making 10 s t x c.made_in.result) same m

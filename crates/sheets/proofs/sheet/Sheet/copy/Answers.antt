@@ -17,16 +17,16 @@ returns g c =
     let er = c.in_ok-res.ensures in
     let ep = c.in_ok-place.ensures in
     let u = with_areas s c.copy.new.self in
-    let e = named K s u R r (Ok ((state s).places p)) (Ok tt) er (written K s u R ((state s).places p) (omega arith) (c.copy.ensures.leaves ∙ ap (storing (contents s.areas) R) (place-found s P p ep)) refl c.copy.ensures.tidy) in
-    let w = tested K s u r (Ok ((state s).places p)) (Ok tt) _ (two_placed r p er.1 ep.1) e in
+    let e = named s u R r (Ok ((state s).places p)) (Ok tt) er (written s u R ((state s).places p) (omega arith) (c.copy.ensures.leaves ∙ ap (storing (contents s.areas) R) (place-found s P p ep)) refl) in
+    let w = tested s u r (Ok ((state s).places p)) (Ok tt) _ (two_placed r p er.1 ep.1) e in
     record {
       answer = w.answers;
       leaves = w.leaves;
-      lent = left_lent K s u r _ _ w c.args.self.now.at_rest (λ _ _. er.1);
+      lent = left_lent s u r _ _ w c.args.self.now.at_rest (λ _ _. er.1);
       algebra = λ f h _ hp. outcome K (state s) (state u) f r (f p) (λ _. ⊥) (Ok ((state s).places p)) (Ok tt) e.answers e.leaves h (h p hp);
     }
 
 pub invariant_of-self : goal.invariant_of-self
 invariant_of-self g c =
     let s = c.args.self.now.desk in
-    record { at_rest = (written g.K.Ring.kind s (with_areas s c.copy.new.self) c.in_ok-res.res.area _ (omega arith) c.copy.ensures.leaves refl c.copy.ensures.tidy).blank c.args.self.now.at_rest }
+    record { at_rest = (written s (with_areas s c.copy.new.self) c.in_ok-res.res.area _ (omega arith) c.copy.ensures.leaves refl).blank c.args.self.now.at_rest }

@@ -29,17 +29,14 @@ returns g c =
     let a = quotient K over (state s).vars (state s).room ((state s).places p) ((state s).places q) in
     let same : quotient K over (state s).vars (state s).room (table s c.in_ok-left.left.area) (table s c.in_ok-right.right.area) ≡ a =
     (λ i. quotient K over (state s).vars (state s).room (place-found s c.in_ok-left.left.area p ep i) (place-found s c.in_ok-right.right.area q eq i)) in
-    let e = named K s u c.in_ok-res.res.area r a c.finish.result er (ends K s 8 (omega arith) t u c.in_ok-res.res.area a c.quotient_in-made.result c.finish.result (subst (λ x. Making K 8 s t x c.quotient_in-made.result) same c.quotient_in-made.ensures) c.finish.ensures.answer c.finish.ensures.leaves c.finish.ensures.blank) in
-    let w = tested K s u r a c.finish.result _ (three_placed r p q er.1 ep.1 eq.1) e in
+    let e = named s u c.in_ok-res.res.area r a c.finish.result er (ends s 8 (omega arith) t u c.in_ok-res.res.area a c.quotient_in-made.result c.finish.result (subst (λ x. Making 8 s t x c.quotient_in-made.result) same c.quotient_in-made.ensures) c.finish.ensures.answer c.finish.ensures.leaves c.finish.ensures.blank) in
+    let w = tested s u r a c.finish.result _ (three_placed r p q er.1 ep.1 eq.1) e in
     record {
       answer = w.answers;
       leaves = w.leaves;
-      lent = left_lent K s u r _ _ w c.args.self.now.at_rest (λ _ _. er.1);
+      lent = left_lent s u r _ _ w c.args.self.now.at_rest (λ _ _. er.1);
       algebra = λ whole f h _ hp hq. divides K (state s) f r (f p) (f q) h (state u) a c.finish.result e.answers e.leaves ((exact_division_lem K over g.met.K.Ring.ring g.met.K.Ring.values g.met.K.Domain.division (g.met.K.Ring.wholeness whole) (state s).vars (state s).room (sound s.format).narrow).quotients (f p) (f q) ((state s).places p) ((state s).places q) (h p hp) (h q hq));
     }
-
-pub invariant_of-self : goal.invariant_of-self
-invariant_of-self g c = record { at_rest = c.finish.ensures.blank (c.quotient_in-made.ensures.tidy c.args.self.now.at_rest.tidy) }
 
 pub returns-in_err-res-clause-lent : goal.returns-in_err-res-clause-lent
 returns-in_err-res-clause-lent g c = refused_lent g.K.Ring.kind (lent_of c.args.self.now.desk) c.args.res _ Place (cond-false _ _ _ (and_left (ltb c.args.res 8) _ (le-ltb c.args.res 8 c.in_err-res.ensures.0)))

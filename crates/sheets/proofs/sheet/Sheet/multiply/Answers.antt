@@ -22,14 +22,11 @@ returns g c =
     let a = product K (state s).vars (state s).room ((state s).places p) ((state s).places q) in
     let same : product K (state s).vars (state s).room (table s c.in_ok-left.left.area) (table s c.in_ok-right.right.area) ≡ a =
     (λ i. product K (state s).vars (state s).room (place-found s c.in_ok-left.left.area p ep i) (place-found s c.in_ok-right.right.area q eq i)) in
-    let e = named K s u c.in_ok-res.res.area r a c.finish.result er (ends K s 10 (omega arith) t u c.in_ok-res.res.area a c.product_in-made.result c.finish.result (subst (λ x. Making K 10 s t x c.product_in-made.result) same c.product_in-made.ensures) c.finish.ensures.answer c.finish.ensures.leaves c.finish.ensures.blank) in
-    let w = tested K s u r a c.finish.result _ (three_placed r p q er.1 ep.1 eq.1) e in
+    let e = named s u c.in_ok-res.res.area r a c.finish.result er (ends s 10 (omega arith) t u c.in_ok-res.res.area a c.product_in-made.result c.finish.result (subst (λ x. Making 10 s t x c.product_in-made.result) same c.product_in-made.ensures) c.finish.ensures.answer c.finish.ensures.leaves c.finish.ensures.blank) in
+    let w = tested s u r a c.finish.result _ (three_placed r p q er.1 ep.1 eq.1) e in
     record {
       answer = w.answers;
       leaves = w.leaves;
-      lent = left_lent K s u r _ _ w c.args.self.now.at_rest (λ _ _. er.1);
+      lent = left_lent s u r _ _ w c.args.self.now.at_rest (λ _ _. er.1);
       algebra = λ f h _ hp hq. outcome K (state s) (state u) f r _ _ a c.finish.result e.answers e.leaves h ((theory K g.met.K.Ring.ring g.met.K.Ring.values s).products (f p) (f q) ((state s).places p) ((state s).places q) (h p hp) (h q hq));
     }
-
-pub invariant_of-self : goal.invariant_of-self
-invariant_of-self g c = record { at_rest = c.finish.ensures.blank (c.product_in-made.ensures.tidy c.args.self.now.at_rest.tidy) }

@@ -27,18 +27,15 @@ returns g c =
     let a = product_truncated K (state s).vars (state s).room k n ((state s).places p) ((state s).places q) in
     let same : product_truncated K (state s).vars (state s).room k n (table s c.in_ok-left.left.area) (table s c.in_ok-right.right.area) ≡ a =
     (λ i. product_truncated K (state s).vars (state s).room k n (place-found s c.in_ok-left.left.area p ep i) (place-found s c.in_ok-right.right.area q eq i)) in
-    let e = named K s u c.in_ok-res.res.area r a c.finish.result er (ends K s 9 (omega arith) t u c.in_ok-res.res.area a c.low_product_in-made.result c.finish.result (subst (λ x. Making K 9 s t x c.low_product_in-made.result) same c.low_product_in-made.ensures) c.finish.ensures.answer c.finish.ensures.leaves c.finish.ensures.blank) in
-    let low = passing K s u r a c.finish.result Prefix _ (le-leb k (length (state s).vars) (omega (arith, c.count.ensures))) e in
-    let w = tested K s u r _ c.finish.result _ (three_placed r p q er.1 ep.1 eq.1) low in
+    let e = named s u c.in_ok-res.res.area r a c.finish.result er (ends s 9 (omega arith) t u c.in_ok-res.res.area a c.low_product_in-made.result c.finish.result (subst (λ x. Making 9 s t x c.low_product_in-made.result) same c.low_product_in-made.ensures) c.finish.ensures.answer c.finish.ensures.leaves c.finish.ensures.blank) in
+    let low = passing s u r a c.finish.result Prefix _ (le-leb k (length (state s).vars) (omega (arith, c.count.ensures))) e in
+    let w = tested s u r _ c.finish.result _ (three_placed r p q er.1 ep.1 eq.1) low in
     record {
       answer = w.answers;
       leaves = w.leaves;
-      lent = left_lent K s u r _ _ w c.args.self.now.at_rest (λ _ _. er.1);
+      lent = left_lent s u r _ _ w c.args.self.now.at_rest (λ _ _. er.1);
       algebra = λ _ f h _ hp hq. outcome K (state s) (state u) f r _ _ a c.finish.result e.answers e.leaves h ((theory K g.met.K.Ring.ring g.met.K.Ring.values s).truncated_products k n (f p) (f q) ((state s).places p) ((state s).places q) (h p hp) (h q hq));
     }
-
-pub invariant_of-self : goal.invariant_of-self
-invariant_of-self g c = record { at_rest = c.finish.ensures.blank (c.low_product_in-made.ensures.tidy c.args.self.now.at_rest.tidy) }
 
 pub returns-then-count-clause-lent : goal.returns-then-count-clause-lent
 returns-then-count-clause-lent g c =

@@ -7,14 +7,11 @@ use Rattle.sheets.proofs.LentRows.{lent_opened}
 use Rattle.sheets.proofs.sheet.Sheet.open.Goals as goal
 
 pub invariant_of-result : goal.invariant_of-result
-invariant_of-result g c = record { at_rest = record { tidy = c.open-areas.ensures.tidy; working = λ a low high. ap (λ d. d.tables a) c.open-areas.ensures.holds } }
+invariant_of-result g c = record { at_rest = λ a low high. ap (λ d. d.tables a) c.open-areas.ensures.holds }
 
 pub returns : goal.returns
 returns g c =
     let is = c.open-areas.ensures.holds in
-    let d : Desk _ = record { areas = c.open-areas.result; format = c.args.format } in
+    let d : Desk _ _ = record { areas = c.open-areas.result; format = c.args.format } in
     let e = seen-fresh (contents c.open-areas.result) (length c.args.rows.now) (variables c.args.format) is in
-    record {
-      state = e;
-      lent = lent_opened g.K.Ring.kind d (record { tidy = c.open-areas.ensures.tidy; working = λ a low high. ap (λ d. d.tables a) is }) (length c.args.rows.now) (ap (λ d. d.lent) is) e;
-    }
+    record { state = e; lent = lent_opened d (λ a low high. ap (λ d. d.tables a) is) (length c.args.rows.now) (ap (λ d. d.lent) is) e }

@@ -26,18 +26,15 @@ returns g c =
     let a = substituted K (state s).vars (state s).room v ((state s).places q) [] ((state s).places p) in
     let same : substituted K (state s).vars (state s).room v (table s c.in_ok-right.right.area) [] (table s c.in_ok-left.left.area) ≡ a =
     (λ i. substituted K (state s).vars (state s).room v (place-found s c.in_ok-right.right.area q eq i) [] (place-found s c.in_ok-left.left.area p ep i)) in
-    let e = named K s u c.in_ok-res.res.area r a c.finish.result er (ends K s 8 (omega arith) t u c.in_ok-res.res.area a c.substitution_in-made.result c.finish.result (subst (λ x. Making K 8 s t x c.substitution_in-made.result) same c.substitution_in-made.ensures) c.finish.ensures.answer c.finish.ensures.leaves c.finish.ensures.blank) in
-    let there = passing K s u r a c.finish.result NotInFormat _ (lt-ltb v (length (state s).vars) (omega (arith, c.count.ensures))) e in
-    let w = tested K s u r _ c.finish.result _ (three_placed r p q er.1 ep.1 eq.1) there in
+    let e = named s u c.in_ok-res.res.area r a c.finish.result er (ends s 8 (omega arith) t u c.in_ok-res.res.area a c.substitution_in-made.result c.finish.result (subst (λ x. Making 8 s t x c.substitution_in-made.result) same c.substitution_in-made.ensures) c.finish.ensures.answer c.finish.ensures.leaves c.finish.ensures.blank) in
+    let there = passing s u r a c.finish.result NotInFormat _ (lt-ltb v (length (state s).vars) (omega (arith, c.count.ensures))) e in
+    let w = tested s u r _ c.finish.result _ (three_placed r p q er.1 ep.1 eq.1) there in
     record {
       answer = w.answers;
       leaves = w.leaves;
-      lent = left_lent K s u r _ _ w c.args.self.now.at_rest (λ _ _. er.1);
+      lent = left_lent s u r _ _ w c.args.self.now.at_rest (λ _ _. er.1);
       algebra = λ B hv f h bounded _ hp hq. outcome K (state s) (state u) f r _ _ a c.finish.result e.answers e.leaves h ((theory K g.met.K.Ring.ring g.met.K.Ring.values s).substitutions v B (f p) (f q) ((state s).places p) ((state s).places q) hv bounded (h p hp) (h q hq));
     }
-
-pub invariant_of-self : goal.invariant_of-self
-invariant_of-self g c = record { at_rest = c.finish.ensures.blank (c.substitution_in-made.ensures.tidy c.args.self.now.at_rest.tidy) }
 
 pub returns-then-variable-count-clause-lent : goal.returns-then-variable-count-clause-lent
 returns-then-variable-count-clause-lent g c =

@@ -28,15 +28,12 @@ returns g c =
     let a = limit (state s) (subtracted K ((state s).places p) ((state s).places q)) in
     let b = scaling K (contents s.areas) 8 c.in_ok-left.left.area c.in_ok-right.right.area c.minus_one.result in
     let same : b ≡ a = cond-true _ _ _ (apart_areas 8 c.in_ok-left.left.area c.in_ok-right.right.area (omega arith) (omega arith) (omega arith) (λ x. omega arith) (λ x. omega arith)) ∙ (λ i. limited (state s).room (joined K (place-found s c.in_ok-left.left.area p ep i) (c.minus_one.ensures i) (place-found s c.in_ok-right.right.area q eq i))) in
-    let m = passed K 8 8 s t b c.add_scaled-answer.result made (omega arith) (omega arith) c.add_scaled-answer.ensures.leaves refl c.add_scaled-answer.ensures.tidy c.add_scaled-answer.ensures.answer c.made_in.ensures in
-    let e = named K s u c.in_ok-res.res.area r a c.finish.result er (ends K s 8 (omega arith) t u c.in_ok-res.res.area a made c.finish.result (subst (λ x. Making K 8 s t x made) same m) c.finish.ensures.answer c.finish.ensures.leaves c.finish.ensures.blank) in
-    let w = tested K s u r a c.finish.result _ (three_placed r p q er.1 ep.1 eq.1) e in
+    let m = passed 8 8 s t b c.add_scaled-answer.result made (omega arith) (omega arith) c.add_scaled-answer.ensures.leaves refl c.add_scaled-answer.ensures.answer c.made_in.ensures in
+    let e = named s u c.in_ok-res.res.area r a c.finish.result er (ends s 8 (omega arith) t u c.in_ok-res.res.area a made c.finish.result (subst (λ x. Making 8 s t x made) same m) c.finish.ensures.answer c.finish.ensures.leaves c.finish.ensures.blank) in
+    let w = tested s u r a c.finish.result _ (three_placed r p q er.1 ep.1 eq.1) e in
     record {
       answer = w.answers;
       leaves = w.leaves;
-      lent = left_lent K s u r _ _ w c.args.self.now.at_rest (λ _ _. er.1);
+      lent = left_lent s u r _ _ w c.args.self.now.at_rest (λ _ _. er.1);
       algebra = λ f h _ hp hq. outcome K (state s) (state u) f r _ _ a c.finish.result e.answers e.leaves h ((theory K g.met.K.Ring.ring g.met.K.Ring.values s).differences (f p) (f q) ((state s).places p) ((state s).places q) (h p hp) (h q hq));
     }
-
-pub invariant_of-self : goal.invariant_of-self
-invariant_of-self g c = record { at_rest = c.finish.ensures.blank (c.add_scaled-answer.ensures.tidy c.args.self.now.at_rest.tidy) }
