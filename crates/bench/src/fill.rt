@@ -1,9 +1,6 @@
 // The polynomials that the operations work on.
 ghost use Rattle.std.specs.Prelude.{◌<◌};
-ghost use Rattle.integers.specs.Integers.{integers};
-ghost use Rattle.residues.specs.Residues.{residues};
 ghost use Rattle.sheets.specs.Desks.{Blank};
-ghost use Rattle.sheets.specs.Running.{Neat};
 
 use formats::{Draft, Format};
 use integers::Integer;
@@ -27,7 +24,7 @@ fn stored<K: Ring>(
     place: usize,
     entered: Result<(), Refusal>,
 ) -> Result<(), Refusal>
-    ensures { Neat K.kind desk.old → Blank K.kind desk.new }
+    ensures { Blank desk.new }
 {
     match entered {
         Ok(()) => desk.store(place),
@@ -44,7 +41,6 @@ fn enter_table<F: Fn(u32) -> (u64, i64)>(
     row: F,
 ) -> Result<(), Refusal>
     requires { F.IsAlwaysCallable row }
-    ensures { Neat integers desk.old → Neat integers desk.new }
 {
     desk.begin();
     for i in (0..2000).rev() {
@@ -97,9 +93,7 @@ impl Draws {
 }
 
 // Enters 60 random terms, X up to 5, Y and Z up to 999.
-fn enter_sparse(desk: &mut Desk<'_, Integer>, seed: u32) -> Result<(), Refusal>
-    ensures { Neat integers desk.old → Neat integers desk.new }
-{
+fn enter_sparse(desk: &mut Desk<'_, Integer>, seed: u32) -> Result<(), Refusal> {
     let format = desk.format();
     let mut draws = Draws { seed };
     desk.begin();
@@ -123,9 +117,7 @@ pub(crate) fn sparse(
 }
 
 // Enters the variables and one.
-fn enter_four(desk: &mut Desk<'_, Residue>) -> Result<(), Refusal>
-    ensures { Neat residues desk.old → Neat residues desk.new }
-{
+fn enter_four(desk: &mut Desk<'_, Residue>) -> Result<(), Refusal> {
     let format = desk.format();
     let one = Residue { number: 1 };
     desk.begin();

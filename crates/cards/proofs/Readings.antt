@@ -4,6 +4,7 @@ use Rattle.std.proofs.Common.{◌≡◌, ℕ, Bool, true, false, cond, List, Ok,
 use Rattle.refusals.specs.declared.Refusal.TheVariants.{Place}
 use Rattle.rings.specs.Members.{RingLaws}
 use Rattle.rings.specs.Kinds.{Kind, ValueLaws, FigureLaws}
+use Rattle.rings.specs.declared.ring.Ring.{Ghosts}
 use Rattle.formats.proofs.Keys.{sound}
 use Rattle.algebra.specs.Tables.{meant}
 use Rattle.texts.specs.Numbers as numbers
@@ -17,7 +18,7 @@ use Rattle.sheets.proofs.Outcomes.{outcome}
 use Rattle.cards.specs.Read.{Table, read_of, counted, placing, read_answer, read_leaves, Reads}
 use Rattle.cards.specs.declared.reading.ReadFault.{ReadFault}
 
-module _ {V : Type 0} (K : Kind V) (ring : RingLaws K.ops) (values : ValueLaws K) (writing : FigureLaws K) (s : Desk V) (p : ℕ) (text : List ℕ) (t : State V) (a : Result ℕ ReadFault) where
+module _ {V : Type 0} {G : Ghosts V} (K : Kind V) (ring : RingLaws K.ops) (values : ValueLaws K) (writing : FigureLaws K) (s : Desk V G) (p : ℕ) (text : List ℕ) (t : State V) (a : Result ℕ ReadFault) where
   refused : (e : ReadFault) → a ≡ Err e → t ≡ state s → Reads K (state s) t p text a
   refused e is left = subst (λ x. Reads K (state s) t p text x) (sym is) (λ f holds. subst (λ x. Holds K x f) (sym left) holds)
 

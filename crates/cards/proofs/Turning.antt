@@ -15,6 +15,7 @@ use Rattle.std.proofs.lemmas.Result.{err_from_is_err_and}
 use Rattle.refusals.specs.declared.Refusal.{Refusal}
 use Rattle.refusals.specs.declared.Refusal.TheVariants.{TextEnds}
 use Rattle.rings.specs.Kinds.{Kind}
+use Rattle.rings.specs.declared.ring.Ring.{Ghosts}
 use Rattle.rows.specs.declared.Row.{Row}
 use Rattle.algebra.specs.Tables.{Falling}
 use Rattle.areas.specs.Areas.{rows_of, answered}
@@ -37,7 +38,7 @@ use Rattle.decks.specs.declared.partial.Got.TheVariants.{Whole}
 use Rattle.decks.proofs.Turns.{Left, reading-byte, reading_end}
 use Rattle.sheets.specs.States.{State}
 use Rattle.sheets.specs.Desks.{state}
-use Rattle.sheets.specs.Running.{running, Neat, entering}
+use Rattle.sheets.specs.Running.{running, entering}
 use Rattle.sheets.specs.declared.desk.Desk.{Desk}
 use Rattle.sheets.proofs.Entering.{entering-falling}
 use Rattle.cards.specs.Read.{Table, goes_on, numbered, deck_shown, read_of}
@@ -65,14 +66,13 @@ module _ {V : Type 0} (K : Kind V) (s : State V) (xs : Table V) (falls : Falling
   entered_on u e = whole ∙ taken_so (entering K s.room xs x) b u e go
 
 -- ---- a text, worked from the sheet s on
-module _ {V : Type 0} (K : Kind V) (s : Desk V) (text : List ℕ) where
+module _ {V : Type 0} {G : Ghosts V} (K : Kind V) (s : Desk V G) (text : List ℕ) where
   abbrev Rest : numbers.Card → terms.Partial V → Table V → ℕ → Result (Deck (Table V)) numbers.Fault
   Rest = Left K (state s).vars (adding K (state s).room) text
 
-  pub record Working (t : Desk V) (card : Card) (partial : Partial V) (i : ℕ) : Type 0 where
+  pub record Working (t : Desk V G) (card : Card) (partial : Partial V) (i : ℕ) : Type 0 where
     pub same : state t ≡ state s
     pub falls : Falling (running t)
-    pub neat : Neat K s → Neat K t
     pub low : i ≤ length text
     pub rest : Rest (card_of card) (partial_of (state s).vars partial) (running t) i ≡ read_of K (state s) text
 
@@ -80,13 +80,12 @@ module _ {V : Type 0} (K : Kind V) (s : Desk V) (text : List ℕ) where
   working-none card is empty = record {
     same = refl;
     falls = subst Falling (sym empty) tt;
-    neat = λ n. n;
     low = omega arith;
     rest = λ j. Rest (is j) none (empty j) 0;
   }
 
 -- a step of it, on a byte or at the text's end
-module _ {V : Type 0} {K : Kind V} {s : Desk V} {text : List ℕ} {t : Desk V} {card : Card} {partial : Partial V} {i : ℕ} (w : Working K s text t card partial i) (r : Result Step Fault) where
+module _ {V : Type 0} {G : Ghosts V} {K : Kind V} {s : Desk V G} {text : List ℕ} {t : Desk V G} {card : Card} {partial : Partial V} {i : ℕ} (w : Working K s text t card partial i) (r : Result Step Fault) where
   module _ (end : ℕ) (go : numbers.Card → Going (Table V) V) (a : Result numbers.Step numbers.Fault) (turn : Rest K s text (card_of card) (partial_of (state s).vars partial) (running t) i ≡ with_step K (state s).vars (adding K (state s).room) (running t) (partial_of (state s).vars partial) end a go) (stepped : shown r ≡ a) where
     so : with_step K (state s).vars (adding K (state s).room) (running t) (partial_of (state s).vars partial) end (shown r) go ≡ read_of K (state s) text
     so = ap (λ b. with_step K (state s).vars (adding K (state s).room) (running t) (partial_of (state s).vars partial) end b go) stepped ∙ sym turn ∙ w.rest
@@ -94,7 +93,7 @@ module _ {V : Type 0} {K : Kind V} {s : Desk V} {text : List ℕ} {t : Desk V} {
     working-refused : {f : Fault} → r ≡ Err f → Err (fault_of f) ≡ read_of K (state s) text
     working-refused is = ap (λ b. with_step K (state s).vars (adding K (state s).room) (running t) (partial_of (state s).vars partial) end (shown b) go) (sym is) ∙ so
 
-    working_turn : {p : Step} → r ≡ Ok p → {q : Result (Option (Partial V)) Fault} (u : Desk V) → ((n : ℕ) (via : Going (Table V) V) → goes_on (state t).vars q (running u) n via ≡ numbered K (state t) (running t) partial p.number n via) → {o : Result (Option (Partial V)) Fault} → q ≡ o → goes_on (state s).vars o (running u) end (go (card_of p.card)) ≡ read_of K (state s) text
+    working_turn : {p : Step} → r ≡ Ok p → {q : Result (Option (Partial V)) Fault} (u : Desk V G) → ((n : ℕ) (via : Going (Table V) V) → goes_on (state t).vars q (running u) n via ≡ numbered K (state t) (running t) partial p.number n via) → {o : Result (Option (Partial V)) Fault} → q ≡ o → goes_on (state s).vars o (running u) end (go (card_of p.card)) ≡ read_of K (state s) text
     working_turn {p} is {q} u answer got =
         ap (λ b. goes_on (state s).vars b (running u) end (go (card_of p.card))) (sym got)
         ∙ subst (λ x. goes_on x.vars q (running u) end (go (card_of p.card)) ≡ numbered K x (running t) partial p.number end (go (card_of p.card))) w.same (answer end (go (card_of p.card)))
@@ -112,15 +111,14 @@ module _ {V : Type 0} {K : Kind V} {s : Desk V} {text : List ℕ} {t : Desk V} {
     pub byte-refused : {f : Fault} → r ≡ Err f → Err (fault_of f) ≡ read_of K (state s) text
     byte-refused = working-refused (i + through (drop i text)) On (worked (card_of card) i (get_or text i 0)) byte stepped
 
-    module _ {p : Step} (is : r ≡ Ok p) {q : Result (Option (Partial V)) Fault} (u : Desk V) (answer : (n : ℕ) (via : Going (Table V) V) → goes_on (state t).vars q (running u) n via ≡ numbered K (state t) (running t) partial p.number n via) where
+    module _ {p : Step} (is : r ≡ Ok p) {q : Result (Option (Partial V)) Fault} (u : Desk V G) (answer : (n : ℕ) (via : Going (Table V) V) → goes_on (state t).vars q (running u) n via ≡ numbered K (state t) (running t) partial p.number n via) where
       pub byte_turn : {o : Result (Option (Partial V)) Fault} → q ≡ o → goes_on (state s).vars o (running u) (i + through (drop i text)) (On (card_of p.card)) ≡ read_of K (state s) text
       byte_turn = working_turn (i + through (drop i text)) On (worked (card_of card) i (get_or text i 0)) byte stepped is u answer
 
-      pub working-more : {v : Partial V} → q ≡ Ok (Some v) → state u ≡ state t → Falling (running u) → (Neat K t → Neat K u) → Working K s text u p.card v (i + 1)
-      working-more got same falls neat = record {
+      pub working-more : {v : Partial V} → q ≡ Ok (Some v) → state u ≡ state t → Falling (running u) → Working K s text u p.card v (i + 1)
+      working-more got same falls = record {
         same = same ∙ w.same;
         falls = falls;
-        neat = λ n. neat (w.neat n);
         low = omega arith;
         rest = byte_turn got;
       }
@@ -140,7 +138,7 @@ module _ {V : Type 0} {K : Kind V} {s : Desk V} {text : List ℕ} {t : Desk V} {
     pub end_refused : {f : Fault} → r ≡ Err f → Err (fault_of f) ≡ read_of K (state s) text
     end_refused = working-refused (length text) Over (closed (card_of card)) over stepped
 
-    pub end_turn : {p : Step} → r ≡ Ok p → {q : Result (Option (Partial V)) Fault} (u : Desk V) → ((n : ℕ) (via : Going (Table V) V) → goes_on (state t).vars q (running u) n via ≡ numbered K (state t) (running t) partial p.number n via) → {o : Result (Option (Partial V)) Fault} → q ≡ o → goes_on (state s).vars o (running u) (length text) (Over (card_of p.card)) ≡ read_of K (state s) text
+    pub end_turn : {p : Step} → r ≡ Ok p → {q : Result (Option (Partial V)) Fault} (u : Desk V G) → ((n : ℕ) (via : Going (Table V) V) → goes_on (state t).vars q (running u) n via ≡ numbered K (state t) (running t) partial p.number n via) → {o : Result (Option (Partial V)) Fault} → q ≡ o → goes_on (state s).vars o (running u) (length text) (Over (card_of p.card)) ≡ read_of K (state s) text
     end_turn = working_turn (length text) Over (closed (card_of card)) over stepped
 
 -- what is shown where a fault is handed on

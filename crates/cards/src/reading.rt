@@ -3,7 +3,7 @@ ghost use Rattle.std.specs.Prelude.{◌≡◌, [], Some, None};
 ghost use Rattle.sheets.specs.Desks as desks;
 ghost use Rattle.sheets.specs.Desks.{Blank};
 ghost use Rattle.sheets.specs.Sheets.{state};
-ghost use Rattle.sheets.specs.Running.{running, Neat};
+ghost use Rattle.sheets.specs.Running.{running};
 ghost use Rattle.cards.specs.Read.{deck_shown, read_of, read_answer, read_leaves, Reads};
 
 use crate::terms::term;
@@ -47,7 +47,6 @@ fn read_deck<K: Ring>(desk: &mut Desk<'_, K>, text: &[u8]) -> Result<usize, Faul
     requires { running desk.old ≡ [] }
     ensures answer { deck_shown result (running desk.new) ≡ read_of K.kind (desks.state desk.old) text.now }
     ensures leaves { desks.state desk.new ≡ desks.state desk.old }
-    ensures neat { Neat K.kind desk.old → Neat K.kind desk.new }
 {
     let mut card = Card::new();
     let mut partial = Partial::None;
@@ -74,7 +73,7 @@ fn read_deck<K: Ring>(desk: &mut Desk<'_, K>, text: &[u8]) -> Result<usize, Faul
 fn give_up<K: Ring>(desk: &mut Desk<'_, K>, fault: Fault) -> ReadFault
     ensures answer { result ≡ record { refusal = fault.refusal; byte = Some fault.byte } }
     ensures leaves { desks.state desk.new ≡ desks.state desk.old }
-    ensures blank { Neat K.kind desk.old → Blank K.kind desk.new }
+    ensures blank { Blank desk.new }
 {
     desk.abandon();
     fault.into()

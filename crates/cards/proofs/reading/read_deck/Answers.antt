@@ -21,7 +21,7 @@ returns-in_default-clause-answer g c =
     ∙ byte_turn c.loop-i.invariant c.step.result c.loop-i-test.true c.step.ensures c.in_ok-step.was c.term.new.desk c.term.ensures.answer (c.in_ok-next.was ∙ ap Ok c.in_default.is)
 
 pub loop-i-preserved : goal.loop-i-preserved
-loop-i-preserved g c = working-more c.loop-i.invariant c.step.result c.loop-i-test.true c.step.ensures c.in_ok-step.was c.term.new.desk c.term.ensures.answer (c.in_ok-next.was ∙ ap Ok c.in-Some.is) c.term.ensures.leaves c.term.ensures.falling c.term.ensures.neat
+loop-i-preserved g c = working-more c.loop-i.invariant c.step.result c.loop-i-test.true c.step.ensures c.in_ok-step.was c.term.new.desk c.term.ensures.answer (c.in_ok-next.was ∙ ap Ok c.in-Some.is) c.term.ensures.leaves c.term.ensures.falling
 
 pub returns-in_err-step-2-clause-answer : goal.returns-in_err-step-2-clause-answer
 returns-in_err-step-2-clause-answer g c = refused_shown c.from_residual-in_err-step-2.result _ c.from_residual-in_err-step-2.ensures ∙ end_refused c.loop-i.invariant c.close.result c.loop-i-test.false c.close.ensures c.in_err-step-2.was
