@@ -1,8 +1,7 @@
 -- The variables of a format, one by one. Assumes nothing.
-use Rattle.std.proofs.Common.{◌≡◌, ℕ, ◌+◌, ◌<◌, ◌||◌, ◌==◌, List, [], ◌∷◌, length, get_or, drop, refl, ap}
+use Rattle.std.proofs.Common.{◌≡◌, ℕ, ◌||◌, ◌==◌, List, [], ◌∷◌, get_or, refl, ap}
 use Rattle.std.specs.List.{sum_by, list_any}
 use Rattle.std.proofs.lemmas.List.Recursion.{is_sum_by}
-use Rattle.std.proofs.lemmas.List.{at_drop_more}
 use Rattle.formats.specs.Variables.{total, used, variable}
 use Rattle.formats.specs.declared.variable.Variable.{Variable}
 
@@ -16,7 +15,3 @@ used_is_any x (v ∷ vs) = ap (λ t. v.letter == x || t) (used_is_any x vs)
 -- the variable at i, as a loop reads it
 abbrev pub at : List Variable → ℕ → Variable
 at vs i = get_or vs i (variable 0 0)
-
-module _ (vs : List Variable) (i : ℕ) where
-  pub total-step : i < length vs → total (drop i vs) ≡ (at vs i).width + total (drop (i + 1) vs)
-  total-step h = at_drop_more total vs i (variable 0 0) h

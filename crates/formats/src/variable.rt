@@ -10,7 +10,6 @@ pub struct Variable {
 }
 
 // Whether one of the variables has the letter.
-#[tactic(auto, using(crate::proofs::Walks::used_is_any))]
 pub(crate) fn uses(variables: &[Variable], letter: u8) -> bool
     ensures { result ≡ used letter variables.now }
 {

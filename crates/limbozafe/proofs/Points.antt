@@ -1,28 +1,30 @@
 -- A text that is cut at a line that is just a point. Assumes nothing.
-use Rattle.std.proofs.Common.{◌≡◌, ℕ, ◌+◌, ◌⊎◌, ⊎_elim, inl, inr, Bool, true, false, not, cond, nat_eq, List, [], ◌∷◌, ◌++◌, length, take, drop, refl, sym, ◌∙◌, ap, arith}
-use Rattle.std.specs.List.{position_or_len}
-use Rattle.std.proofs.lemmas.List.{take-append-drop, length-take, drop_all}
-use Rattle.std.proofs.lemmas.Bool.{eqb-true}
-use Rattle.limbozafe.specs.Lines.{line, line_length, after_line, IsCutAtPoint}
+--     CutBefore text n rest     what is cut from the rest makes, with the first n bytes before it, what is cut from the text
+use Rattle.std.proofs.Common.{◌≡◌, ℕ, ◌+◌, ◌<◌, ◌≤◌, List, [], ◌∷◌, ◌++◌, length, take, drop, refl, sym, ◌∙◌, ap, subst, append_assoc, arith}
+use Rattle.std.proofs.Math.Seq.{take-add}
+use Rattle.std.proofs.lemmas.List.{append-nil, length-drop, take_all, take_at, take-append-drop}
+use Rattle.limbozafe.specs.Lines.{line, line_length, after_line, IsPoint, IsCutAtPoint}
+use Rattle.limbozafe.specs.Lines.IsCutAtPoint.{ended, point, more}
 
--- a line that is one byte and no byte 10 is the last
-last-more : (b : ℕ) (bs : List ℕ) (t : Bool) → nat_eq b 10 ≡ t → line (b ∷ bs) ≡ 46 ∷ [] → after_line (b ∷ bs) ≡ []
-last-more b bs true e h =
-    let one : line_length (b ∷ bs) ≡ 1 = ap (λ t. cond (not t) (1 + position_or_len (λ x. nat_eq x 10) bs) 0 + 1) e in
-    let same : b ∷ [] ≡ 46 ∷ [] = sym (ap (λ k. take k (b ∷ bs)) one) ∙ h in
-    let ten : b ≡ 10 = eqb-true b 10 e in
-    absurd (let z : b ≡ 46 = cc in omega arith)
-last-more b bs false e h =
-    let long : line_length (b ∷ bs) ≡ 1 + position_or_len (λ x. nat_eq x 10) bs + 1 = ap (λ t. cond (not t) (1 + position_or_len (λ x. nat_eq x 10) bs) 0 + 1) e in
-    let l = length-take (line_length (b ∷ bs)) (b ∷ bs) in
-    let one : length (line (b ∷ bs)) ≡ 1 = ap length h in
-    drop_all _ (b ∷ bs) (omega arith)
+abbrev pub CutBefore : List ℕ → ℕ → List ℕ → Type 0
+CutBefore text n rest = (cards after : List ℕ) → IsCutAtPoint rest cards after → IsCutAtPoint text (take n text ++ cards) after
 
-last : (bs : List ℕ) → line bs ≡ 46 ∷ [] → after_line bs ≡ []
-last [] h = refl
-last (b ∷ bs) h = last-more b bs (nat_eq b 10) refl h
+nothing : (xs : List ℕ) → ¬ (0 < length xs) → xs ≡ []
+nothing [] short = refl
+nothing (x ∷ xs) short = absurd (short (omega arith))
 
-pub cut_at_line : (text rest : List ℕ) (n : ℕ) → drop n text ≡ rest → (line rest ≡ 46 ∷ []) ⊎ (line rest ≡ 46 ∷ 10 ∷ []) → IsCutAtPoint text (take n text) (after_line rest)
-cut_at_line text rest n e h =
-    let whole : text ≡ take n text ++ (line rest ++ after_line rest) = sym (take-append-drop n text) ∙ ap (λ ys. take n text ++ ys) (e ∙ sym (take-append-drop (line_length rest) rest)) in
-    (line rest, whole, ⊎_elim (λ one. inr (last rest one, inl one)) (λ two. inl two) h)
+module _ (text : List ℕ) (n : ℕ) (rest : List ℕ) (left : drop n text ≡ rest) (cut : CutBefore text n rest) where
+  pub cut_point : IsPoint (line rest) → IsCutAtPoint text (take n text) (after_line rest)
+  cut_point is = subst (λ cs. IsCutAtPoint text cs (after_line rest)) (append-nil (take n text)) (cut [] (after_line rest) (point rest is))
+
+  pub cut_more : ¬ IsPoint (line rest) → CutBefore text (n + length (line rest)) (after_line rest)
+  cut_more not cards after is =
+      let whole : line rest ≡ take (length (line rest)) rest = sym (take_at (line rest) (after_line rest) _ refl) ∙ ap (take (length (line rest))) (take-append-drop (line_length rest) rest) in
+      let longer : take (n + length (line rest)) text ≡ take n text ++ line rest = take-add n (length (line rest)) text ∙ ap (λ l. take n text ++ l) (ap (take (length (line rest))) left ∙ sym whole) in
+      subst (λ cs. IsCutAtPoint text cs after) (sym (append_assoc (take n text) (line rest) cards) ∙ ap (λ l. l ++ cards) (sym longer)) (cut (line rest ++ cards) after (more rest cards after not is))
+
+  pub cut_end : ¬ (0 < length rest) → IsCutAtPoint text text (after_line rest)
+  cut_end short =
+      let none = nothing rest short in
+      let long : length text ≤ n = let d = length-drop n text in let e = ap length (left ∙ none) in omega arith in
+      subst (λ cs. IsCutAtPoint text cs (after_line rest)) (append-nil (take n text) ∙ take_all n text long) (cut [] (after_line rest) (subst (λ r. IsCutAtPoint r [] (after_line r)) (sym none) ended))

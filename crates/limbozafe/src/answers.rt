@@ -1,4 +1,8 @@
 // Answers, as they are printed.
+ghost use Rattle.std.specs.Prelude.{Some};
+ghost use Rattle.uses.specs.Answers.{answer_of};
+ghost use Rattle.limbozafe.specs.Printing.{printed};
+
 use cards::ReadFault;
 use rings::{Figures, Ring};
 use std::fmt;
@@ -9,6 +13,8 @@ use uses::{Answer, Reply};
 pub(crate) struct Printed<K>(pub(crate) Answer<K>);
 
 impl<K: Ring> fmt::Display for Printed<K> {
+    ghost output = { λ p. Some (printed K.kind (answer_of p.0)) };
+
     fn fmt<W: fmt::Write>(&self, f: &mut fmt::Formatter<W>) -> fmt::Result {
         match self.0 {
             Ok(Reply::Done) => f.write_str("ok"),

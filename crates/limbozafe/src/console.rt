@@ -1,4 +1,6 @@
 // What a session has to do with the host.
+ghost use Rattle.std.specs.Prelude.{◌≡◌, false};
+
 use crate::fault::Fault;
 use refusals::Refusal;
 use std::{fs, io, str};
@@ -20,7 +22,9 @@ impl<'a> Console<'a> {
     }
 
     // Prints what is wrong with the line of a number.
-    pub(crate) fn complain(&mut self, number: u64, fault: Fault) -> io::Result<()> {
+    pub(crate) fn complain(&mut self, number: u64, fault: Fault) -> io::Result<()>
+        ensures { self.new.faultless ≡ false }
+    {
         self.faultless = false;
         println!(self.rt; "error: line {number}: {fault}")
     }

@@ -1,4 +1,7 @@
 // What is wrong with a command of a script.
+ghost use Rattle.std.specs.Prelude.{Some};
+ghost use Rattle.limbozafe.specs.Faults.{message};
+
 use std::fmt;
 
 #[derive(Clone, Copy)]
@@ -14,6 +17,8 @@ pub(crate) enum Fault {
 }
 
 impl fmt::Display for Fault {
+    ghost output = { λ f. Some (message f) };
+
     fn fmt<W: fmt::Write>(&self, f: &mut fmt::Formatter<W>) -> fmt::Result {
         f.write_str(match self {
             Fault::Command => "unknown command",

@@ -1,4 +1,6 @@
 // The coefficient kind of a sheet.
+ghost use Rattle.limbozafe.specs.Kinds.{kind};
+
 use crate::fault::Fault;
 use crate::line_words::FromWord;
 
@@ -12,6 +14,8 @@ pub(crate) enum Kind {
 }
 
 impl FromWord for Kind {
+    ghost says = { kind };
+
     fn from_word(word: &[u8]) -> Result<Kind, Fault> {
         match word {
             b"integers" => Ok(Kind::Integers),

@@ -1,6 +1,6 @@
 // Numbers of a script: decimal digits only, leading zeros allowed.
 ghost use Rattle.std.specs.Prelude.{◌≡◌, [], ◌∷◌};
-ghost use Rattle.limbozafe.specs.Numerals.{natural, reads};
+ghost use Rattle.limbozafe.specs.Numerals.{natural, reads, figure};
 
 // The number with one digit more, if the byte is a digit and the number has 64 bits.
 fn with_digit(n: u64, byte: u8) -> Option<u64>
@@ -27,7 +27,9 @@ pub(crate) fn parse_natural(word: &[u8]) -> Option<u64>
 }
 
 // The figure that a word writes, if it is one of 64 bits: digits, with a minus before them if it is negative.
-pub(crate) fn parse_figure(word: &[u8]) -> Option<i64> {
+pub(crate) fn parse_figure(word: &[u8]) -> Option<i64>
+    ensures { result ≡ figure word.now }
+{
     match word {
         [b'-', digits @ ..] => 0i64.checked_sub_unsigned(parse_natural(digits)?),
         _ => i64::try_from(parse_natural(word)?).ok(),

@@ -1,7 +1,7 @@
 // A script, line by line.
-ghost use Rattle.std.specs.Prelude.{◌≡◌, ◌<◌, ◌≤◌, ◌↔◌, ◌⊎◌, [], ◌∷◌, length, IfSome, IsSome, OnSome};
-ghost use Rattle.std.specs.Bool.{OnTrue};
-ghost use Rattle.limbozafe.specs.Lines.{line, after_line, IsCutAtPoint};
+ghost use Rattle.std.specs.Prelude.{◌≡◌, ◌<◌, ◌≤◌, ◌↔◌, ◌+◌, ◌-◌, ◌^◌, min, length, IfSome, IsSome, OnSome, IsTrue};
+ghost use Rattle.limbozafe.specs.Lines.{line, after_line, content, IsPoint, IsCutAtPoint, IsCutAfter};
+ghost use Rattle.limbozafe.specs.Words.{words as words_of, AsksForCards};
 
 use crate::line_words::Words;
 
@@ -35,7 +35,9 @@ fn first_line(text: &[u8]) -> (&[u8], &[u8])
 }
 
 // A line without its byte 10 and a byte 13 right before that.
-fn without_end(line: &[u8]) -> &[u8] {
+fn without_end(line: &[u8]) -> &[u8]
+    ensures { result.now ≡ content line.now }
+{
     match line {
         [front @ .., b'\r', b'\n'] => front,
         [front @ .., b'\n'] => front,
@@ -45,14 +47,19 @@ fn without_end(line: &[u8]) -> &[u8] {
 
 // Whether a line is just a point.
 fn is_point(line: &[u8]) -> bool
-    ensures { OnTrue result ((line.now ≡ 46 ∷ []) ⊎ (line.now ≡ 46 ∷ 10 ∷ [])) }
+    ensures { IsTrue result ↔ IsPoint line.now }
 {
     matches!(line, b"." | b".\n")
 }
 
 // Whether cards follow a line: it is a `read` without a file name, right or wrong.
-fn has_cards(mut words: Words) -> bool {
-    matches!(words.next(), Some(b"read")) && words.nth(1).is_none()
+fn has_cards(mut words: Words) -> bool
+    ensures { IsTrue result ↔ AsksForCards (words_of words.entry.0.now) }
+{
+    match words.next() {
+        Some(b"read") => words.nth(1).is_none(),
+        _ => false,
+    }
 }
 
 impl<'a> Script<'a> {
@@ -61,6 +68,7 @@ impl<'a> Script<'a> {
         ensures variant { IsSome result ↔ (0 < length self.old.rest.now) }
         ensures line { IfSome result (λ l. l.now ≡ line self.old.rest.now) }
         ensures rest { self.new.rest.now ≡ after_line self.old.rest.now }
+        ensures count { OnSome result (self.new.lines ≡ min (self.old.lines + 1) (2 ^ 64 - 1)) }
     {
         if self.rest.is_empty() {
             return None;
@@ -73,7 +81,8 @@ impl<'a> Script<'a> {
 
     // The cards that follow: every byte up to a line that is just a point, or all that is left. That line is taken too.
     fn cards(&mut self) -> &'a [u8]
-        ensures { IsCutAtPoint self.old.rest.now result.now self.new.rest.now }
+        ensures cards { IsCutAtPoint self.old.rest.now result.now self.new.rest.now }
+        ensures onward { length self.new.rest.now ≤ length self.old.rest.now }
     {
         let text = self.rest;
         let mut length = 0;
@@ -88,7 +97,11 @@ impl<'a> Script<'a> {
 
     // The next line, with the cards that follow it.
     pub(crate) fn next_line(&mut self) -> Option<Line<'a>>
-        ensures { OnSome result (length self.new.rest.now < length self.old.rest.now) }
+        ensures variant { IsSome result ↔ (0 < length self.old.rest.now) }
+        ensures number { IfSome result (λ l. l.number ≡ min (self.old.lines + 1) (2 ^ 64 - 1)) }
+        ensures words { IfSome result (λ l. l.words.0.now ≡ content (line self.old.rest.now)) }
+        ensures cards { IfSome result (λ l. IsCutAfter (words_of l.words.0.now) (after_line self.old.rest.now) l.cards.now self.new.rest.now) }
+        ensures onward { OnSome result (length self.new.rest.now < length self.old.rest.now) }
     {
         let words = Words(without_end(self.take_line()?));
         let number = self.lines;

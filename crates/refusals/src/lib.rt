@@ -49,7 +49,7 @@ pub enum Refusal {
 }
 
 impl Refusal {
-    // The number under which the manual lists the cause.
+    // The number under which docs/REFUSALS.md lists the cause.
     pub fn number(self) -> u8
         ensures { result ≡ number self }
     {

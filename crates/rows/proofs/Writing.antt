@@ -1,15 +1,14 @@
 -- Writing over a part of a list. Assumes nothing.
 --     length_put       the length stays
 --     put-push         one more element
---     put-none, put_one, put_all     no element, one, or as many as there are
+--     put-none         no element
 --     put_is           how such a list is told
 --     part-put         the part that was written
 --     part-put-apart   a part that was not
 --     put-over         what is written over is gone
 --     put_next         one part after another
---     put_swap         two parts that have no place in common, in either order
-use Rattle.std.proofs.Common.{◌≡◌, ℕ, ◌+◌, ◌-◌, ◌<◌, ◌≤◌, ◌⊎◌, List, [], ◌∷◌, ◌++◌, length, get_or, take, drop, set, sym, refl, ap, ◌∙◌, inl, inr, ⊎_elim, add-zero, add-one, arith}
-use Rattle.std.proofs.lemmas.List.{append-nil, append_assoc, length-append, length-drop, length-take, length-take-le, take-append-drop, length_push, get_or-take, get_or-drop, get_or_append_left, get_or-append_right, drop_more, take_at, drop_at, drop_all, set_at, set_split, same_lists}
+use Rattle.std.proofs.Common.{◌≡◌, ℕ, ◌+◌, ◌-◌, ◌<◌, ◌≤◌, List, [], ◌∷◌, ◌++◌, length, get_or, take, drop, set, sym, refl, ap, ◌∙◌, ⊎_elim, add-zero, arith}
+use Rattle.std.proofs.lemmas.List.{append_assoc, length-append, length-drop, length-take, length-take-le, take-append-drop, length_push, get_or-take, get_or-drop, get_or_append_left, get_or-append_right, drop_more, take_at, drop_at, set_at, same_lists}
 use Rattle.std.proofs.lemmas.Bool.{cases_lt}
 use Rattle.rows.specs.Lists.{part, put, Clear}
 
@@ -65,12 +64,6 @@ put_is xs at ys fits zs long before within after =
 pub put-none : {X : Type 0} (xs : List X) (at : ℕ) → put xs at [] ≡ xs
 put-none xs at = ap (λ n. take at xs ++ drop n xs) (add-zero at) ∙ take-append-drop at xs
 
-pub put_one : {X : Type 0} (xs : List X) (at : ℕ) (x : X) → at < length xs → set xs at x ≡ put xs at (x ∷ [])
-put_one xs at x h = set_split xs at x h ∙ ap (λ n. take at xs ++ x ∷ drop n xs) (sym (add-one at))
-
-pub put_all : {X : Type 0} (xs ys : List X) → length ys ≡ length xs → put xs 0 ys ≡ ys
-put_all xs ys e = ap (λ l. ys ++ l) (drop_all (0 + length ys) xs (omega arith)) ∙ append-nil ys
-
 pub part_same : {X : Type 0} (xs zs : List X) (a m : ℕ) → length zs ≡ length xs → ((k : ℕ) (d : X) → a ≤ k → k < a + m → get_or zs k d ≡ get_or xs k d) → part a m zs ≡ part a m xs
 part_same xs zs a m long same =
     let p = length-take m (drop a zs) in
@@ -109,22 +102,3 @@ module _ {X : Type 0} (xs : List X) (at : ℕ) (ys : List X) (fits : at + length
       (λ g. let e : at + k - b ≡ k - length ys = omega arith in get_or-put_in (put xs at ys) b zs low (at + k) d (omega arith) (omega arith) ∙ ap (λ n. get_or zs n d) e ∙ sym (get_or-append_right ys zs (length ys) k d refl g))
       (cases_lt k (length ys)))
       (λ k d h. get_or-put_after (put xs at ys) b zs low k d (omega arith) ∙ get_or-put_after xs at ys fits k d (omega arith))
-
-  pub put_swap : (b : ℕ) (zs : List X) → Clear at (length ys) b (length zs) → b + length zs ≤ length xs → put (put xs at ys) b zs ≡ put (put xs b zs) at ys
-  put_swap b zs clear fits' =
-      let long = length_put xs at ys fits in
-      let long' = length_put xs b zs fits' in
-      let low : b + length zs ≤ length (put xs at ys) = omega arith in
-      let other : (k : ℕ) (d : X) → (k < at) ⊎ (at + length ys ≤ k) → get_or (put (put xs at ys) b zs) k d ≡ get_or (put xs b zs) k d =
-      λ k d outside.
-      let plain : get_or (put xs at ys) k d ≡ get_or xs k d = ⊎_elim (get_or-put_before xs at ys fits k d) (get_or-put_after xs at ys fits k d) outside in
-      ⊎_elim (λ l. get_or-put_before (put xs at ys) b zs low k d l ∙ plain ∙ sym (get_or-put_before xs b zs fits' k d l))
-      (λ g. ⊎_elim (λ l. get_or-put_in (put xs at ys) b zs low k d g l ∙ sym (get_or-put_in xs b zs fits' k d g l)) (λ p. get_or-put_after (put xs at ys) b zs low k d p ∙ plain ∙ sym (get_or-put_after xs b zs fits' k d p)) (cases_lt k (b + length zs)))
-      (cases_lt k b) in
-      put_is (put xs b zs) at ys (omega arith) (put (put xs at ys) b zs) (length_put (put xs at ys) b zs low ∙ long ∙ sym long')
-      (λ k d h. other k d (inl h))
-      (λ k d h.
-      let e : at + k - at ≡ k = omega arith in
-      let away : get_or (put (put xs at ys) b zs) (at + k) d ≡ get_or (put xs at ys) (at + k) d = ⊎_elim (λ p. get_or-put_before (put xs at ys) b zs low (at + k) d (omega arith)) (λ p. get_or-put_after (put xs at ys) b zs low (at + k) d (omega arith)) clear in
-      away ∙ get_or-put_in xs at ys fits (at + k) d (omega arith) (omega arith) ∙ ap (λ n. get_or ys n d) e)
-      (λ k d h. other k d (inr h))
