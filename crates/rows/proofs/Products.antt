@@ -1,36 +1,20 @@
 -- A table plus rows that are yet to be found, or refused: step by step. Assumes nothing.
---     continued_nil          the first table is empty
---     continued-first        its first key is greater than that of the next row
---     continued-second       the next row's key is greater
---     continued-both         the two keys are equal
+--     continued-both         the next rows of both have one key
 --     scaled-unfit           a table times a row is refused only for a product that does not fit
-use Rattle.std.proofs.Common.{◌≡◌, ℕ, ◌<◌, ◌≤◌, Bool, true, false, cond, List, [], ◌∷◌, Ok, Err, Result, sym, refl, ap, ◌∙◌, arith}
+use Rattle.std.proofs.Common.{◌≡◌, ℕ, ◌≤◌, Bool, true, false, cond, List, [], ◌∷◌, Ok, Err, Result, sym, refl, ap, ◌∙◌, arith}
 use Rattle.refusals.specs.declared.Refusal.{Refusal}
 use Rattle.refusals.specs.declared.Refusal.TheVariants.{Unfit}
 use Rattle.rings.specs.Kinds.{Kind, ValueLaws}
 use Rattle.rows.specs.declared.Row.{Row}
 use Rattle.rows.specs.Tables.{row, sum, both, consed}
 use Rattle.rows.specs.Products.{scaled, continued, key_sum}
-use Rattle.rows.proofs.Sums.{sum_first, sum-second, sum_both}
+use Rattle.rows.proofs.Sums.{sum_both}
 
 -- every refusal of r is that of a coefficient that does not fit
 abbrev pub Unfitting : {X : Type 0} → Result X Refusal → Type 0
 Unfitting r = (e : Refusal) → r ≡ Err e → e ≡ Unfit
 
 module _ {V : Type 0} (K : Kind V) where
-  pub continued_nil : (y : Row V) (r : Result (List (Row V)) Refusal) → continued (consed y r) (sum K []) ≡ consed y (continued r (sum K []))
-  continued_nil y (Ok ys) = refl
-  continued_nil y (Err e) = refl
-
-  module _ (x : Row V) (xs : List (Row V)) (y : Row V) where
-    pub continued-first : (r : Result (List (Row V)) Refusal) → y.key < x.key → continued (consed y r) (sum K (x ∷ xs)) ≡ consed x (continued (consed y r) (sum K xs))
-    continued-first (Ok ys) h = sum_first K x xs y ys h
-    continued-first (Err e) h = refl
-
-    pub continued-second : (r : Result (List (Row V)) Refusal) → x.key < y.key → continued (consed y r) (sum K (x ∷ xs)) ≡ consed y (continued r (sum K (x ∷ xs)))
-    continued-second (Ok ys) h = sum-second K x xs y ys h
-    continued-second (Err e) h = refl
-
   both-refused : (k : ℕ) (v : Result V Refusal) (e : Refusal) → Unfitting v → e ≡ Unfit → both K k v (Err e) ≡ Err e
   both-refused k (Ok w) e u f = same (K.ops.same (K.meaning w) K.ops.zero)
     where

@@ -5,7 +5,6 @@
 --     put_is           how such a list is told
 --     part-put         the part that was written
 --     part-put-apart   a part that was not
---     put-over         what is written over is gone
 --     put_next         one part after another
 use Rattle.std.proofs.Common.{◌≡◌, ℕ, ◌+◌, ◌-◌, ◌<◌, ◌≤◌, List, [], ◌∷◌, ◌++◌, length, get_or, take, drop, set, sym, refl, ap, ◌∙◌, ⊎_elim, add-zero, arith}
 use Rattle.std.proofs.lemmas.List.{append_assoc, length-append, length-drop, length-take, length-take-le, take-append-drop, length_push, get_or-take, get_or-drop, get_or_append_left, get_or-append_right, drop_more, take_at, drop_at, set_at, same_lists}
@@ -80,15 +79,6 @@ module _ {X : Type 0} (xs : List X) (at : ℕ) (ys : List X) (fits : at + length
   part-put-apart a m clear =
       part_same xs (put xs at ys) a m (length_put xs at ys fits)
       (λ k d h l. ⊎_elim (λ p. get_or-put_before xs at ys fits k d (omega arith)) (λ p. get_or-put_after xs at ys fits k d (omega arith)) clear)
-
-  pub put-over : (zs : List X) → length ys ≤ length zs → at + length zs ≤ length xs → put (put xs at ys) at zs ≡ put xs at zs
-  put-over zs shorter fits' =
-      let long = length_put xs at ys fits in
-      let low : at + length zs ≤ length (put xs at ys) = omega arith in
-      put_is xs at zs fits' (put (put xs at ys) at zs) (length_put (put xs at ys) at zs low ∙ long)
-      (λ k d h. get_or-put_before (put xs at ys) at zs low k d h ∙ get_or-put_before xs at ys fits k d h)
-      (λ k d h. let e : at + k - at ≡ k = omega arith in get_or-put_in (put xs at ys) at zs low (at + k) d (omega arith) (omega arith) ∙ ap (λ n. get_or zs n d) e)
-      (λ k d h. get_or-put_after (put xs at ys) at zs low k d h ∙ get_or-put_after xs at ys fits k d (omega arith))
 
   pub put_next : (b : ℕ) (zs : List X) → at + length ys ≡ b → b + length zs ≤ length xs → put (put xs at ys) b zs ≡ put xs at (ys ++ zs)
   put_next b zs is fits' =

@@ -1,6 +1,5 @@
 -- The running table of a sheet. Assumes nothing.
 --     below-some, below-told     the test of a key against that of the last row, if there is one
---     some-above                 what it says where it fails
 --     alone-fits                 the area for one row has room for it, where there is a running table
 --     merged_sum, merged_rows, merged_state     a row added by the sum: what is to be left, what is, and the places
 --     accepted-rows, held-state   a row written after the others
@@ -36,10 +35,6 @@ below-told k [] None false some at h = absurd (true≢false (sym h))
 below-told k [] (Some y) b some at h = absurd (true≢false some)
 below-told k (x ∷ xs) None b some at h = absurd (true≢false (sym (lt-ltb 0 (length (x ∷ xs)) (omega arith)) ∙ sym some))
 below-told k (x ∷ xs) (Some y) b some at h = h ∙ ap (λ z. ltb k z.key) at ∙ below-some k (x ∷ xs) y.now (λ e. absurd (omega arith))
-
-pub some-above : {V : Type 0} (k : ℕ) (xs : List (Row V)) → below_last k xs ≡ false → 0 < length xs
-some-above k [] h = absurd (true≢false h)
-some-above k (x ∷ xs) h = omega arith
 
 -- ---- a row added by the sum: alone in the area 10, the sum in the area 9, from where it is copied
 module _ {V : Type 0} (K : Kind V) (c c₁ : Contents V) (x : Row V) (e₁ : c₁ ≡ storing c 10 []) (some : 0 < length (c.tables 8)) (few : length (c.tables 8) ≤ c.room) where

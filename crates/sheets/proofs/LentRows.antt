@@ -6,7 +6,6 @@
 --     lent_kept           so the answer of a call tells what it leaves in the lent rows
 --     ended_lent, left_lent     at the end of a call
 --     refused_lent              and where it was refused
---     placed_first        an answer that is no refusal had a place
 --     lent_opened         opened, all lent rows are blank
 --     clear_same          blank rows in a working area change nothing
 --     added-is, constant_is, variable_is     what a call answers is the same by the lent rows
@@ -16,7 +15,7 @@ use Rattle.std.specs.List.{range_with_len}
 use Rattle.std.proofs.lemmas.List.{length-take, length-drop, get_or-set_same, get_or-set_other, length-set}
 use Rattle.std.proofs.lemmas.List.FromFn.{get_or-map-range_with_len, length-map-range_with_len}
 use Rattle.std.proofs.lemmas.Grind.{same_number_lists}
-use Rattle.std.proofs.lemmas.Bool.{cases_lt, cases_eq, ltb-true, eq-eqb, ne_eqb, and_parts, cond-true, cond-false, cond_both}
+use Rattle.std.proofs.lemmas.Bool.{cases_lt, cases_eq, ltb-true, eq-eqb, ne_eqb, and_parts, cond-true, cond-false}
 use Rattle.refusals.specs.declared.Refusal.{Refusal}
 use Rattle.rings.specs.Kinds.{Kind}
 use Rattle.rings.specs.declared.ring.Ring.{Ghosts}
@@ -138,10 +137,6 @@ module _ {V : Type 0} {G : Ghosts V} (s u : Desk V G) (r : ℕ) (a : Result (Lis
 -- a refusal leaves the lent rows
 pub refused_lent : {V : Type 0} (K : Kind V) (l : Lent V) (r : ℕ) (a : Result (List (Row V)) Refusal) (x : Refusal) → a ≡ Err x → l ≡ kept K l r a
 refused_lent K l r a x e = ap (kept K l r) (sym e)
-
--- the test of a place before an answer
-pub placed_first : {X : Type 0} (r : ℕ) (a : Result X Refusal) (x : X) → cond (placed r) a (Err Place) ≡ Ok x → r < 8
-placed_first r a x = cond_both (placed r) a (Err Place) (λ w. w ≡ Ok x → r < 8) (λ t e. ltb-true r 8 t) (λ t e. absurd (let z : ◌≡◌ {A = ℕ} 0 1 = cc in omega arith))
 
 -- ---- a sheet that was opened
 module _ {V : Type 0} {G : Ghosts V} (s : Desk V G) (b : Blank s) where

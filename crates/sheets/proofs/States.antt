@@ -8,7 +8,6 @@
 --     seen-fresh                   areas that were opened
 --     swept_places, swept_areas    the four working areas, emptied
 --     stored-made, stored-none     a result that was made, in its place, and one that was refused
---     fewer                        steps that leave the areas below n leave fewer
 --     passed                       a pass into a working area makes what it leaves there
 --     before                       another area was written before
 --     pushed-one                   and so does a row pushed to an empty one
@@ -113,9 +112,6 @@ module _ {V : Type 0} {G : Ghosts V} (s t : Desk V G) (r : ℕ) (made : Result �
 
 -- ---- what was made
 module _ {V : Type 0} {G : Ghosts V} where
-  pub fewer : (m n : ℕ) (s t : Desk V G) (a : Result (List (Row V)) Refusal) (made : Result ℕ Refusal) → m ≤ n → Making n s t a made → Making m s t a made
-  fewer m n s t a made h m' = record { result = m'.result; others = λ o l. m'.others o (omega arith); lent = m'.lent; room = m'.room; format = m'.format }
-
   -- the area w of t holds the rows of a, if it is no refusal, and t is as s is in the areas below n
   pub passed : (n w : ℕ) (s t : Desk V G) (a : Result (List (Row V)) Refusal) (answer : Result (Unit {0}) Refusal) (made : Result ℕ Refusal) → n ≤ w → w < 12 → contents t.areas ≡ storing (contents s.areas) w (rows_of a) → t.format ≡ s.format → answer ≡ answered a → made ≡ made_in w answer → Making n s t a made
   passed n w s t a answer made low high is format answers makes = record {

@@ -2,7 +2,6 @@
 --     commas ts           the texts ts, joined by commas
 --     figures K v         the figures of the coefficient v, joined by commas
 --     exponents es        the exponents es, joined by commas
---     item i e            the exponent e, with the comma before it unless i is 0
 --     card K vs x         the card of the row x: figures, a blank, exponents, byte 10
 --     ending K            the card that ends a deck: the figures of zero
 --     deck K vs xs        the cards of the rows xs, and the one that ends them
@@ -23,9 +22,6 @@ figures K v = cond (K.count == 1) (signed_decimal (K.first v)) (signed_decimal (
 
 abbrev pub exponents : List ℕ → List ℕ
 exponents es = commas (map decimal es)
-
-abbrev pub item : ℕ → ℕ → List ℕ
-item i e = cond (i == 0) (decimal e) (44 ∷ decimal e)
 
 abbrev pub card : {V : Type 0} → Kind V → List Variable → Row V → List ℕ
 card K vs x = figures K x.coefficient ++ (32 ∷ (exponents (unpack vs x.key) ++ 10 ∷ []))

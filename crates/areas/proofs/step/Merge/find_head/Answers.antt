@@ -12,4 +12,4 @@ returns-clause-next g c =
     let a = c.in-Some-split_first.a.now in
     let rest = c.in-Some-split_first.rest.now in
     let end : m.right.now ≡ [] = no_rows m.right.now (omega (arith, c.in_default.ensures.cases)) in
-    (λ i. giving K m.factor (c.requires.none i) (c.in-Some-split_first.ensures.cases.0 i) (end i)) ∙ left_only K m.factor rest [] a ∙ ap (consed a) (sym (λ i. giving K m.factor (c.requires.none i) rest (end i)))
+    (λ i. giving K m.factor (c.requires.none i) (c.in-Some-split_first.ensures.cases.0 i) (end i)) ∙ left_only K m.factor rest a ∙ ap (consed a) (sym (λ i. giving K m.factor (c.requires.none i) rest (end i)))
