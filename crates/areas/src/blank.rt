@@ -9,8 +9,5 @@ use rows::Row;
 pub(crate) fn blank_rows<K: Ring>(rows: &mut [Row<K>])
     ensures { rows.new ≡ replicate (length rows.old) (blank K.kind) }
 {
-    rows.fill_with(|| Row {
-        key: 0,
-        coefficient: K::zero(),
-    });
+    rows.fill_with(|| Row::blank());
 }

@@ -52,11 +52,7 @@ fn square(report: &Report<'_>, sheet: &mut Sheet<'_, Residue>) -> anyhow::Result
 
 // Blank rows to lend to a sheet.
 fn blank_rows<K: Ring>(rt: &HostRuntime) -> Result<Vec<Row<K>>, AllocError> {
-    let blank = Row {
-        key: 0,
-        coefficient: K::zero(),
-    };
-    Ok(vec![in rt.alloc(); blank; LENT]?)
+    Ok(vec![in rt.alloc(); Row::blank(); LENT]?)
 }
 
 fn over_integers(report: &Report<'_>) -> anyhow::Result<()> {

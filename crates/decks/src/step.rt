@@ -21,6 +21,7 @@ impl Card {
         if self.columns >= COLUMNS {
             return self.gap();
         }
+        // The classes of bytes, told by the characters that they are on a card.
         let Step { card, number } = match byte as char {
             ' ' => self.gap(),
             ',' => self.comma(index),

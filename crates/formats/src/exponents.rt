@@ -12,11 +12,7 @@ impl Format {
     pub fn exponent(&self, key: u64, variable: usize) -> u16
         ensures { result ≡ exponent variable (unpack (variables self.now) key) }
     {
-        // Not `map_or`, which compiles to more instructions here.
-        let Some(field) = self.field(variable) else {
-            return 0;
-        };
-        field.of(key)
+        self.field(variable).map_or(0, |field| field.of(key))
     }
 
     // The key with another exponent of a variable.

@@ -121,10 +121,10 @@ fn call_of<'a>(name: &[u8], words: &mut Words) -> Result<Plain<'a>, Fault> {
 // What the deck of a file, or of the cards that follow, is read into.
 fn read<'a>(words: &mut Words<'a>, cards: &'a [u8]) -> Result<Request<'a>, Fault> {
     let place = words.read()?;
-    match words.next() {
-        Some(name) => Ok(Request::File(place, name)),
-        None => Ok(Request::Call(Call::Read(place, cards))),
-    }
+    Ok(match words.next() {
+        Some(name) => Request::File(place, name),
+        None => Request::Call(Call::Read(place, cards)),
+    })
 }
 
 // The request of a name and the words and cards after it.

@@ -119,11 +119,7 @@ impl<'a> Session<'a> {
             Request::Open(rows) => rows.min(MOST_ROWS),
             _ => MOST_ROWS,
         };
-        let blank = Row {
-            key: 0,
-            coefficient: K::zero(),
-        };
-        let mut lent: Vec<Row<K>> = vec![in self.console.rt.alloc(); blank; rows as usize]?;
+        let mut lent: Vec<Row<K>> = vec![in self.console.rt.alloc(); Row::blank(); rows as usize]?;
         let mut sheet = Sheet::open(lent.as_mut_slice(), asked.format);
         self.console
             .carry_out::<K, D>(&mut sheet, asked.number, asked.request)?;

@@ -11,10 +11,10 @@ use std::fmt;
 pub fn number_up_to(last: u32, first: i64, second: i64) -> Result<u32, Refusal>
     ensures { result ≡ figured (last + 1) (λ n. n) first second }
 {
-    match u32::try_from(first) {
-        Ok(number) if number <= last && second == 0 => Ok(number),
-        _ => Err(Refusal::Unfit),
-    }
+    u32::try_from(first)
+        .ok()
+        .filter(|number| *number <= last && second == 0)
+        .ok_or(Refusal::Unfit)
 }
 
 // A value, written by its figures: one, or two with a comma between them.

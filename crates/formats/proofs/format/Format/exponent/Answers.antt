@@ -3,8 +3,5 @@ use Rattle.formats.specs.Drafts.{variables}
 use Rattle.formats.proofs.Places.{exponent_place}
 use Rattle.formats.proofs.format.Format.exponent.Goals as goal
 
-pub returns-in_default : goal.returns-in_default
-returns-in_default c = rw (exponent_place (variables c.args.self.now) c.args.key c.args.variable c.field.result c.field.ensures) (search rules)
-
 pub returns : goal.returns
 returns c = rw (exponent_place (variables c.args.self.now) c.args.key c.args.variable c.field.result c.field.ensures) (search rules)
