@@ -15,25 +15,13 @@ use Rattle.refusals.specs.declared.Refusal.{Refusal}
 use Rattle.refusals.specs.declared.Refusal.TheVariants.{Rows}
 use Rattle.rings.specs.Kinds.{Kind}
 use Rattle.rows.specs.Lists.{put}
-use Rattle.rows.specs.Tables.{consed, limited, counted}
+use Rattle.rows.specs.Tables.{limited, counted}
 use Rattle.rows.specs.declared.Row.{Row}
 use Rattle.rows.proofs.Writing.{put-push, put-none, length_put}
 use Rattle.areas.specs.Merging.{giving, prepended, remaining, unread, Goes, Filled, Written}
 use Rattle.areas.specs.declared.step.Merge.{Merge}
 use Rattle.areas.proofs.Steps.{giving-none}
-
--- the rows so far before those of r
-abbrev prefixed : {X : Type 0} → List X → Result (List X) Refusal → Result (List X) Refusal
-prefixed out (Ok xs) = Ok (out ++ xs)
-prefixed out (Err e) = Err e
-
-prefixed_more : {V : Type 0} (out : List (Row V)) (x : Row V) (r : Result (List (Row V)) Refusal) → prefixed out (consed x r) ≡ prefixed (out ++ x ∷ []) r
-prefixed_more out x (Ok xs) = ap Ok (sym (append_assoc out (x ∷ []) xs))
-prefixed_more out x (Err e) = refl
-
-prefixed_none : {X : Type 0} (r : Result (List X) Refusal) → prefixed [] r ≡ r
-prefixed_none (Ok xs) = refl
-prefixed_none (Err e) = refl
+use Rattle.areas.proofs.Prefixes.{prefixed, prefixed_none, prefixed_more}
 
 no_row : {X : Type 0} (o : Option X) → length (option_to_list o) ≤ 0 → o ≡ None
 no_row (Some x) h = absurd (omega arith)

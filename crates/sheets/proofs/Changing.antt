@@ -11,7 +11,7 @@
 --     changing-refused, changing_all   the end, by a refusal or after the last row
 --     changing_made        what a call made whose rows were made so
 use Rattle.std.proofs.Common.{◌≡◌, ℕ, ◌+◌, ◌-◌, ◌*◌, ◌<◌, ◌≤◌, Bool, cond, eqb, List, [], ◌∷◌, ◌++◌, length, get_or, drop, Some, None, Ok, Err, Option, Result, sym, refl, ap, ◌∙◌, ⊎_elim, arith}
-use Rattle.std.proofs.lemmas.List.{append-nil, append_assoc, length_push, length-take, at_drop_more, at_drop_all, get_or_past}
+use Rattle.std.proofs.lemmas.List.{append-nil, length_push, length-take, at_drop_more, at_drop_all, get_or_past}
 use Rattle.std.proofs.lemmas.Bool.{cases_lt, cases_Bool, lt-ltb, le-ltb, cond-true, cond-false}
 use Rattle.refusals.specs.declared.Refusal.{Refusal}
 use Rattle.rings.specs.Members.{copies}
@@ -29,6 +29,7 @@ use Rattle.arithmetic.proofs.Derived.{within_lower}
 use Rattle.areas.specs.Areas.{Contents, contents, lent_room, count, storing, pushed, kept as held}
 use Rattle.areas.specs.Merging.{found, prepended}
 use Rattle.areas.specs.declared.twelve.Areas.{Areas}
+use Rattle.areas.proofs.Prefixes.{prefixed, prefixed_none, prefixed_more}
 use Rattle.sheets.specs.Changes.{row_derived, before, changed, Gives, Changes}
 use Rattle.sheets.specs.Ends.{made_in, made_of, Making}
 use Rattle.sheets.specs.Working.{table, below, but, Kept}
@@ -81,19 +82,6 @@ pub table-room : {V : Type 0} {G : Ghosts V} (s : Areas V G) (a : ℕ) → lengt
 table-room s a = omega (arith, length-take (count s a) (drop (a * lent_room s) s.rows.now))
 
 -- ---- row by row
--- the rows so far before those of r
-abbrev prefixed : {X : Type 0} → List X → Result (List X) Refusal → Result (List X) Refusal
-prefixed out (Ok xs) = Ok (out ++ xs)
-prefixed out (Err e) = Err e
-
-prefixed_none : {X : Type 0} (r : Result (List X) Refusal) → prefixed [] r ≡ r
-prefixed_none (Ok xs) = refl
-prefixed_none (Err e) = refl
-
-prefixed_more : {V : Type 0} (out : List (Row V)) (x : Row V) (r : Result (List (Row V)) Refusal) → prefixed out (consed x r) ≡ prefixed (out ++ x ∷ []) r
-prefixed_more out x (Ok xs) = ap Ok (sym (append_assoc out (x ∷ []) xs))
-prefixed_more out x (Err e) = refl
-
 pub pushed-fits : {V : Type 0} (c : Contents V) (a : ℕ) (x : Row V) → a < 12 → length (c.tables a) < c.room → pushed c a x ≡ Ok (c.tables a ++ x ∷ [])
 pushed-fits c a x h fits = cond-true _ _ _ (lt-ltb a 12 h) ∙ cond-false _ _ _ (le-ltb c.room (length (c.tables a ++ x ∷ [])) (let l = length_push (c.tables a) x in omega arith))
 
