@@ -4,7 +4,8 @@
 --     pack-lt           a key is below two to the power of its bits
 --     unpack-pack       exponents within their fields come back
 --     pack-unpack       a key comes back, but for bits above its fields
-use Rattle.std.proofs.Common.{◌≡◌, ℕ, zero, suc, ◌+◌, ◌*◌, ◌/◌, ◌%◌, ◌^◌, ◌<◌, ◌≤◌, true, not, ◌&&◌, ltb, List, [], ◌∷◌, ◌++◌, length, take, replicate, IfOk, Ok, Err, Result, sym, refl, ap, ◌∙◌, subst, mod-eq_of_lt, mul_assoc, mul_comm, add_comm, zero-mul, arith}
+--     pack-alone        the key of a variable by itself is a power of two
+use Rattle.std.proofs.Common.{◌≡◌, ℕ, zero, suc, ◌+◌, ◌*◌, ◌/◌, ◌%◌, ◌^◌, ◌<◌, ◌≤◌, true, not, ◌&&◌, ltb, List, [], ◌∷◌, ◌++◌, length, take, drop, replicate, IfOk, Ok, Err, Result, sym, refl, ap, ◌∙◌, subst, mod-eq_of_lt, mul_assoc, mul_comm, add_comm, suc-add, one-mul, zero-mul, arith}
 use native.Mathlib.Nat.{mul-add-mod_self_right, add-mul-div_right}
 use Rattle.refusals.specs.declared.Refusal.{Refusal}
 use Rattle.refusals.specs.declared.Refusal.TheVariants.{Exponent}
@@ -12,7 +13,7 @@ use Rattle.std.proofs.lemmas.Nat.{pow_pos, pow-add, mod-pow-add, shr_high, mul-a
 use Rattle.std.proofs.lemmas.Bool.{ltb-true, leb-true, and_parts, false≢true, cond_both}
 use Rattle.formats.specs.Variables.{total, lawful, capital, wide, used}
 use Rattle.formats.specs.Drafts.{variables, Sound}
-use Rattle.formats.specs.Keys.{pack, unpack, within, packed, field}
+use Rattle.formats.specs.Keys.{pack, unpack, within, packed, field, alone}
 use Rattle.formats.specs.declared.format.Format.{Format}
 use Rattle.formats.specs.declared.variable.Variable.{Variable}
 use Rattle.formats.proofs.Walks.{at}
@@ -76,6 +77,16 @@ pub pack-zeros : (vs : List Variable) (n : ℕ) → pack vs (replicate n 0) ≡ 
 pack-zeros [] n = refl
 pack-zeros (v ∷ vs) zero = refl
 pack-zeros (v ∷ vs) (suc n) = ap (λ x. x + pack vs (replicate n 0)) (zero-mul (2 ^ total vs)) ∙ omega (arith, pack-zeros vs n)
+
+pub pack-alone : (vs : List Variable) (i : ℕ) → i < length vs → pack vs (alone (length vs) i) ≡ 2 ^ total (drop (i + 1) vs)
+pack-alone [] i h = absurd (omega arith)
+pack-alone (v ∷ vs) zero h = omega (arith, pack-zeros vs (length vs), one-mul (2 ^ total vs))
+pack-alone (v ∷ vs) (suc i) h =
+    let step : drop (suc i + 1) (v ∷ vs) ≡ drop (i + 1) vs = ap (λ n. drop n (v ∷ vs)) (suc-add i 1) in
+    let rest = pack-alone vs i (omega arith) in
+    let none = zero-mul (2 ^ total vs) in
+    let far = ap (λ l. 2 ^ total l) step in
+    omega arith
 
 -- what pack answers, read back
 pub packed-back : (vs : List Variable) (es : List ℕ) (r : Result ℕ Refusal) → r ≡ packed vs es → IfOk r (λ k. unpack vs k ≡ take (length vs) es)

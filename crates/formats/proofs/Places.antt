@@ -51,13 +51,13 @@ exponent_place vs k i o e =
     ∙ sym (unwrap_or-slice_get (map read (places vs)) i 0)
     ∙ ap (λ p. unwrap_or p 0) (slice_get-map read (places vs) i ∙ ap (option_map read) (sym e) ∙ read_place k o)
 
-pack-alone : (vs : List Variable) (i : ℕ) (p : ℕ × ℕ) → slice_get (places vs) i ≡ Some p → (i < length vs) × (pack vs (alone (length vs) i) ≡ 2 ^ p.0)
-pack-alone [] i p e = absurd cc
-pack-alone (v ∷ vs) zero p e =
+alone_place : (vs : List Variable) (i : ℕ) (p : ℕ × ℕ) → slice_get (places vs) i ≡ Some p → (i < length vs) × (pack vs (alone (length vs) i) ≡ 2 ^ p.0)
+alone_place [] i p e = absurd cc
+alone_place (v ∷ vs) zero p e =
     let q : ◌≡◌ {A = ℕ × ℕ} (total vs, v.width) p = cc in
     (omega arith, omega (arith, pack-zeros vs (length vs), one-mul (2 ^ total vs)) ∙ ap (λ m. 2 ^ m.0) q)
-pack-alone (v ∷ vs) (suc i) p e =
-    let r = pack-alone vs i p e in
+alone_place (v ∷ vs) (suc i) p e =
+    let r = alone_place vs i p e in
     (omega (arith, r.0), omega (arith, r.1, zero-mul (2 ^ total vs)))
 
 past_place : (vs : List Variable) (i : ℕ) → slice_get (places vs) i ≡ None → length vs ≤ i
@@ -68,5 +68,5 @@ past_place (v ∷ vs) (suc i) e = omega (arith, past_place vs i e)
 pub unit_place : (vs : List Variable) (i : ℕ) (o : Option Field) → option_map (λ f. (f.shift, f.width)) o ≡ slice_get (places vs) i → unit vs i ≡ ok_or (option_map (λ f. (1 * 2 ^ f.shift) % 2 ^ 64) o) NotInFormat
 unit_place vs i None e = cond-false (ltb i (length vs)) _ _ (le-ltb i (length vs) (past_place vs i (sym e)))
 unit_place vs i (Some f) e =
-    let p = pack-alone vs i (f.shift, f.width) (sym e) in
+    let p = alone_place vs i (f.shift, f.width) (sym e) in
     cond-true (ltb i (length vs)) _ _ (lt-ltb i (length vs) p.0) ∙ ap Ok (p.1 ∙ sym (one_shl f.shift 64 f.low))

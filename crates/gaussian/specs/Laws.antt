@@ -3,10 +3,11 @@
 --     figure_laws      the laws of figures
 --     shares_decides   the test whether both parts divide decides it
 --     division_law     the law of a domain
+--     zero_answer      a divisor whose norm is zero is refused as zero
 use Rattle.std.specs.Prelude.{◌≡◌, ◌≤◌, Bool, true, false, cond, ◌&&◌, ℤ, pos, negsuc, Ok, Err, Decides, ◌≢◌, int_le, int_rem, nat_le, unsigned_abs, refl}
-use Rattle.std.proofs.Common.{sym, ap, subst, ◌∙◌, inr, arith}
+use Rattle.std.proofs.Common.{sym, ap, subst, ◌∙◌, inr, ⊎_elim, arith}
 use Rattle.std.specs.Int.Signed.{le_z_yes}
-use Rattle.std.proofs.lemmas.Bool.{leb-true, le-leb, cond-true, cond_both, true≢false, and_parts, and_from}
+use Rattle.std.proofs.lemmas.Bool.{leb-true, le-leb, cond-true, cond-false, cond_both, cases_Bool, true≢false, and_parts, and_from}
 use Rattle.std.proofs.lemmas.Bool.Decides.{nat_tests, Decides-and}
 use Rattle.refusals.specs.declared.Refusal.TheVariants.{ZeroDivisor, NoQuotient}
 use Rattle.rings.specs.Kinds.{IsValue, ValueLaws, FigureLaws, Division}
@@ -15,7 +16,7 @@ use Rattle.rings.specs.Gaussian.{Number, nought, alike, product, opposite, conju
 use Rattle.rings.specs.Whole.{sameℤ}
 use Rattle.rings.proofs.Whole.{same-decides, nat_abs_negative, remainder_of_product, quotient-exact}
 use Rattle.rings.proofs.Fitting.{tested-ok, tested_err, tested_is_ok}
-use Rattle.rings.proofs.Gaussian.{alike-decides, quotient_parts, quotient_times, quotient-small}
+use Rattle.rings.proofs.Gaussian.{alike-decides, quotient_parts, quotient_times, quotient-small, only_zero_has_norm_zero}
 use Rattle.gaussian.specs.Gaussian.{small, fits, number, of, held, valued, gaussians, shared, shares, divided}
 use Rattle.gaussian.specs.declared.value.Gaussian.{Gaussian}
 
@@ -96,3 +97,21 @@ division_law a b = at (alike (held b) nought) refl (shares p n) refl
         (λ q h.
         let parts = quotient_parts q (held a) (held b) h in
         true≢false (sym ((shares_decides p n).1 (remainder_of_product q.real p.real n parts.0, remainder_of_product q.imaginary p.imaginary n parts.1)) ∙ d))
+
+-- what the code answers where n, the norm of the divisor, is 0
+pub zero_answer : (a b : Gaussian) (n : ℤ) → n ≡ norm (held b) → n ≡ pos 0 → Err ZeroDivisor ≡ divided a b
+zero_answer a b n is_norm e = sym (cond-true (alike (held b) nought) _ _ ((alike-decides (held b) nought).1 (only_zero_has_norm_zero (held b) (sym is_norm ∙ e))))
+
+-- and where it is not; p is the dividend times the conjugate of the divisor
+module _ (a b : Gaussian) (n : ℤ) (p : Gaussian) (is_norm : n ≡ norm (held b)) (some : n ≡ pos 0 → ⊥) (is_product : number p ≡ product (held a) (conjugate (held b))) where
+  not_nought : alike (held b) nought ≡ false
+  not_nought = ⊎_elim (λ t. absurd (some (is_norm ∙ ap norm ((alike-decides (held b) nought).0 t)))) (λ f. f) (cases_Bool (alike (held b) nought))
+
+  divided_is : divided a b ≡ cond (shares (number p) n) (Ok (of (shared (number p) n))) (Err NoQuotient)
+  divided_is = cond-false (alike (held b) nought) _ _ not_nought ∙ sym (λ i. cond (shares (is_product i) (is_norm i)) (Ok (of (shared (is_product i) (is_norm i)))) (Err NoQuotient))
+
+  pub refusal_answer : shares (number p) n ≡ false → Err NoQuotient ≡ divided a b
+  refusal_answer f = sym (divided_is ∙ cond-false (shares (number p) n) _ _ f)
+
+  pub quotient_answer : (v : Gaussian) → shares (number p) n ≡ true → number v ≡ shared (number p) n → Ok v ≡ divided a b
+  quotient_answer v t e = ap (λ q. Ok (of q)) e ∙ sym (divided_is ∙ cond-true (shares (number p) n) _ _ t)

@@ -2,11 +2,19 @@
 --     value_laws       the laws of values
 --     figure_laws      the laws of figures
 --     division_law     the law of a domain
-use Rattle.std.specs.Prelude.{◌≡◌, Bool, true, false, cond, ◌&&◌, ℤ, pos, negsuc, ◌*ℤ◌, neg_ℤ, is_ok, Ok, Err, ◌≢◌, int_div, int_le, int_rem, nat_le, refl}
-use Rattle.std.proofs.Common.{sym, ap, subst, ◌∙◌, inl, le_trans, arith}
-use Rattle.std.specs.Int.Signed.{le_z_yes}
-use Rattle.std.proofs.lemmas.Bool.{leb-true, le-leb, cond-true, cond_both, true≢false, and_parts}
+--     held_small       the member that a content means is small
+--     product_fits, small_fits  products and values lie within a signed word of 64 bits
+--     bits z           the whole number z, taken to its word and back
+--     product_answer   a product of two such words is the product
+--     quotient_answer  a quotient of two such words, where none is left over, is the quotient
+use Rattle.std.specs.Prelude.{◌≡◌, ◌≤◌, Bool, true, false, cond, ◌&&◌, ℤ, pos, negsuc, ◌*ℤ◌, neg_ℤ, is_ok, Ok, Err, Result, FitsSigned, ◌≢◌, int_div, int_le, int_rem, nat_le, unsigned_abs, refl}
+use Rattle.std.proofs.Common.{sym, ap, subst, ◌∙◌, inl, ⊎_elim, le_trans, mul-le-mul, arith, of_z, to_z}
+use Rattle.std.specs.Int.Signed.{mag, mag_rem, le_z_yes, rem_z}
+use Rattle.std.specs.Int.{w64}
+use Rattle.std.proofs.lemmas.Bool.{leb-true, le-leb, cond-true, cond-false, cond_both, cases_Bool, true≢false, and_parts}
+use Rattle.std.proofs.lemmas.Int.{to_z-of_z, unsigned_abs-mul}
 use Rattle.std.proofs.lemmas.Bool.Decides.{nat_tests}
+use Rattle.refusals.specs.declared.Refusal.{Refusal}
 use Rattle.refusals.specs.declared.Refusal.TheVariants.{ZeroDivisor, NoQuotient}
 use Rattle.rings.specs.Kinds.{IsValue, ValueLaws, FigureLaws, Division}
 use Rattle.rings.specs.Kinds.Division.{by_zero, exact, none}
@@ -18,6 +26,9 @@ use Rattle.integers.specs.declared.Integer.{Integer}
 
 held_fits : (v : Integer) → fits (held v) ≡ true
 held_fits v = cond_both (fits v.figure) v.figure (pos 0) (λ z. fits z ≡ true) (λ e. e) (λ _. refl)
+
+pub held_small : (v : Integer) → unsigned_abs (held v) ≤ 134_217_727
+held_small v = leb-true _ _ (held_fits v)
 
 held_of : (z : ℤ) → fits z ≡ true → held (of z) ≡ z
 held_of z e = cond-true (fits z) z (pos 0) e
@@ -81,3 +92,55 @@ division_law a b = at (sameℤ (held b) (pos 0)) refl (sameℤ (int_rem (held a)
         let small : fits q ≡ true = le-leb _ _ (le_trans (nat_abs_quotient (held a) (held b)) (leb-true _ _ (held_fits a))) in
         exact (apart e) (is_value q small) (ap (λ n. n *ℤ held b) (held_of q small) ∙ quotient-exact (held a) (held b) ((same-decides (int_rem (held a) (held b)) (pos 0)).0 d))
     at false e false d = none (apart e) (λ q p. true≢false (sym ((same-decides (int_rem (held a) (held b)) (pos 0)).1 (remainder_of_product q (held a) (held b) p)) ∙ d))
+
+-- ---- the machine's arithmetic does not overflow
+mag_nat_abs : (z : ℤ) → mag z ≤ unsigned_abs z
+mag_nat_abs (pos n) = omega arith
+mag_nat_abs (negsuc n) = omega arith
+
+product_fits : (a b : ℤ) → unsigned_abs a ≤ 134_217_727 → unsigned_abs b ≤ 134_217_727 → FitsSigned w64 (a *ℤ b)
+product_fits a b p q =
+    let m = mul-le-mul p q in
+    let n = unsigned_abs-mul a b in
+    let k = mag_nat_abs (a *ℤ b) in
+    record { sfits = omega arith }
+
+small_fits : (z : ℤ) → unsigned_abs z ≤ 134_217_727 → FitsSigned w64 z
+small_fits z p = let k = mag_nat_abs z in record { sfits = omega arith }
+
+-- a number that went to its bits and back
+abbrev bits : ℤ → ℤ
+bits z = to_z w64 (of_z w64 z)
+
+small_bits : (z : ℤ) → unsigned_abs z ≤ 134_217_727 → bits z ≡ z
+small_bits z p = to_z-of_z w64 z (small_fits z p)
+
+module _ (x y : ℤ) (p : unsigned_abs x ≤ 134_217_727) (q : unsigned_abs y ≤ 134_217_727) where
+  pub bits_product_fits : FitsSigned w64 (bits x *ℤ bits y)
+  bits_product_fits = rw (small_bits x p, small_bits y q) (product_fits x y p q)
+
+  bits_product : bits (bits x *ℤ bits y) ≡ x *ℤ y
+  bits_product = to_z-of_z w64 _ bits_product_fits ∙ (λ i. small_bits x p i *ℤ small_bits y q i)
+
+  pub product_answer : (a b : ℤ) (r : Result Integer Refusal) → r ≡ valued (bits (bits x *ℤ bits y)) → x ≡ a → y ≡ b → r ≡ valued (a *ℤ b)
+  product_answer a b r e g h = e ∙ ap valued (bits_product ∙ (λ i. g i *ℤ h i))
+
+zero_bits : (z : ℤ) → FitsSigned w64 z → of_z w64 z ≡ 0 → z ≡ pos 0
+zero_bits z f e = sym (to_z-of_z w64 z f) ∙ ap (to_z w64) e
+
+not_true : {t : Bool} → (t ≢ true) → t ≡ false
+not_true {t} n = ⊎_elim (λ h. absurd (n h)) (λ h. h) (cases_Bool t)
+
+-- what division answers where neither test refused
+pub quotient_answer : (a b : Integer) (x y : ℤ) → x ≡ held a → y ≡ held b → unsigned_abs x ≤ 134_217_727 → unsigned_abs y ≤ 134_217_727 → (of_z w64 y ≢ 0) → of_z w64 (rem_z (bits x) (bits y)) ≡ 0 → Ok (record { figure = bits (int_div (bits x) (bits y)) }) ≡ divided a b
+quotient_answer a b x y g h p q apart even =
+    let z : sameℤ y (pos 0) ≡ false = not_true (λ t. apart (ap (of_z w64) ((same-decides y (pos 0)).0 t))) in
+    let plain : rem_z (bits x) (bits y) ≡ rem_z x y = λ i. rem_z (small_bits x p i) (small_bits y q i) in
+    let k = mag_rem x y in
+    let m = mag_nat_abs x in
+    let r : rem_z x y ≡ pos 0 = zero_bits (rem_z x y) (record { sfits = omega arith }) (sym (ap (of_z w64) plain) ∙ even) in
+    let e : sameℤ (rem_z x y) (pos 0) ≡ true = (same-decides (rem_z x y) (pos 0)).1 r in
+    let w : bits (int_div (bits x) (bits y)) ≡ int_div x y = ap bits (λ i. int_div (small_bits x p i) (small_bits y q i)) ∙ small_bits (int_div x y) (le_trans (nat_abs_quotient x y) p) in
+    ap (λ n. Ok (record { figure = n })) w
+    ∙ sym (cond-false (sameℤ y (pos 0)) _ _ z ∙ cond-true (sameℤ (rem_z x y) (pos 0)) _ _ e)
+    ∙ (λ i. cond (sameℤ (h i) (pos 0)) (Err ZeroDivisor) (cond (sameℤ (rem_z (g i) (h i)) (pos 0)) (Ok (record { figure = int_div (g i) (h i) })) (Err NoQuotient)))
