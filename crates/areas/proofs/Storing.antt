@@ -3,7 +3,7 @@
 --     storing-none            storing where there is no area changes nothing
 --     storing-same            nor does storing what is there
 --     storing-again           storing in an area twice
---     no_table                a table is empty where there is no area
+--     no_table, no_count      a table is empty where there is no area, and where its count is 0
 --     opened, opened-tidy     what areas hold that were opened
 --     stored, stored-tidy     rows and then blanks at the start of an area, with its count set to the rows
 use Rattle.std.proofs.Common.{◌≡◌, ℕ, ◌+◌, ◌-◌, ◌*◌, ◌<◌, ◌≤◌, min, cond, ◌&&◌, eqb, ltb, ◌⊎◌, List, [], ◌++◌, length, get_or, take, drop, set, replicate, sym, refl, ap, ◌∙◌, subst, subst₂, inl, inr, ⊎_elim, arith}
@@ -59,6 +59,9 @@ storing-again c a ys xs = λ i. record {
 
 pub no_table : {V : Type 0} (rows : List (Row V)) (counts : List ℕ) (a : ℕ) → length counts ≤ a → (contents-of rows counts).tables a ≡ []
 no_table rows counts a h = let n : count_of rows counts a ≡ 0 = let g = get_or_past counts a 0 h in omega arith in ap (λ m. part (a * room_of rows) m rows) n
+
+pub no_count : {V : Type 0} (rows : List (Row V)) (counts : List ℕ) (a : ℕ) → get_or counts a 0 ≡ 0 → (contents-of rows counts).tables a ≡ []
+no_count rows counts a h = let n : count_of rows counts a ≡ 0 = omega arith in ap (λ m. part (a * room_of rows) m rows) n
 
 -- ---- areas that were opened
 module _ {V : Type 0} (K : Kind V) (n : ℕ) (rows : List (Row V)) (is : rows ≡ replicate n (blank K)) where

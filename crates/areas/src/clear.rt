@@ -10,7 +10,8 @@ impl<K: Ring> Areas<'_, K> {
     pub fn clear(&mut self, area: usize)
         ensures leaves { contents self.new ≡ storing (contents self.old) area [] }
     {
-        if area < AREAS {
+        // most working areas are empty already when a call empties them
+        if area < AREAS && self.counts[area] > 0 {
             self.settle(area, 0);
         }
     }
