@@ -68,9 +68,9 @@ allowed-first false c cs a = (λ t. absurd (true≢false (sym t ∙ a.0)), a.1)
 module _ {V : Type 0} (K : Kind V) (over : Over V) (vs : List Variable) (may : Bool) (known : Known K over vs may) where
   one-step : (s : State V) → s.vars ≡ vs → (f : Formulas K) → Holding K vs s.places f → (c : Call) → (divides c ≡ true → may ≡ true) → Steps K vs c f (answer K over s c) (after K over s c).places
   one-step s same f h c d =
-      let path : record { lent = s.lent; room = s.room; places = s.places; vars = vs } ≡ s = λ i. record { lent = s.lent; room = s.room; places = s.places; vars = sym same i } in
+      let path : record { room = s.room; places = s.places; vars = vs } ≡ s = λ i. record { room = s.room; places = s.places; vars = sym same i } in
       subst (λ t. Steps K vs c f (answer K over t c) (after K over t c).places) path
-      (step K over vs may known s.lent s.room s.places f h c d)
+      (step K over vs may known s.room s.places f h c d)
 
   runs_hold : (cs : List Call) (s : State V) → s.vars ≡ vs → (f g : Formulas K) → Holding K vs s.places f → Allowed may cs → Follow K over vs s f cs g → Holding K vs (after_all K over s cs).places g
   runs_hold [] s same f g h a t = stay_holds K vs s.places f g h t

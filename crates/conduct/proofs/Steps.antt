@@ -128,11 +128,11 @@ pub record Known {V : Type 0} (K : Kind V) (over : Over V) (vs : List Variable) 
   pub decks : DecksOfTables K vs
 
 -- ---- each call
-module _ {V : Type 0} (K : Kind V) (over : Over V) (vs : List Variable) (may : Bool) (known : Known K over vs may) (n c : ℕ) (ps : ℕ → List (Row V)) (f : Formulas K) (h : Holding K vs ps f) where
+module _ {V : Type 0} (K : Kind V) (over : Over V) (vs : List Variable) (may : Bool) (known : Known K over vs may) (c : ℕ) (ps : ℕ → List (Row V)) (f : Formulas K) (h : Holding K vs ps f) where
   open known use {ring, laws, figures, sound, whole, arithmetic, division, decks}
 
   abbrev s : State V
-  s = record { lent = n; room = c; places = ps; vars = vs }
+  s = record { room = c; places = ps; vars = vs }
 
   abbrev Goes : Call → Type 0
   Goes call = Steps K vs call f (answer K over s call) (after K over s call).places

@@ -6,16 +6,17 @@
 --     lent_kept           so the answer of a call tells what it leaves in the lent rows
 --     ended_lent, left_lent     at the end of a call
 --     refused_lent              and where it was refused
+--     misplaced_first, misplaced_second, misplaced_third    because one of three places is none
 --     lent_opened         opened, all lent rows are blank
 --     clear_same          blank rows in a working area change nothing
 --     added-is, constant_is, variable_is     what a call answers is the same by the lent rows
 --     lent_added          a sum, brought to its place by the working area, leaves what it says of the state
-use Rattle.std.proofs.Common.{◌≡◌, ℕ, ◌-◌, ◌*◌, ◌<◌, ◌≤◌, Bool, true, false, cond, eqb, List, [], ◌++◌, map, length, get_or, drop, set, replicate, Ok, Err, Result, sym, refl, ap, ◌∙◌, ⊎_elim, arith}
+use Rattle.std.proofs.Common.{◌≡◌, ℕ, ◌-◌, ◌*◌, ◌<◌, ◌≤◌, Bool, true, false, cond, ◌&&◌, eqb, List, [], ◌++◌, map, length, get_or, drop, set, replicate, Ok, Err, Result, sym, refl, ap, ◌∙◌, ⊎_elim, arith}
 use Rattle.std.specs.List.{range_with_len}
 use Rattle.std.proofs.lemmas.List.{length-take, length-drop, get_or-set_same, get_or-set_other, length-set}
 use Rattle.std.proofs.lemmas.List.FromFn.{get_or-map-range_with_len, length-map-range_with_len}
 use Rattle.std.proofs.lemmas.Grind.{same_number_lists}
-use Rattle.std.proofs.lemmas.Bool.{cases_lt, cases_eq, ltb-true, eq-eqb, ne_eqb, and_parts, cond-true, cond-false}
+use Rattle.std.proofs.lemmas.Bool.{cases_lt, cases_eq, ltb-true, le-ltb, eq-eqb, ne_eqb, and_parts, and_left, and_right, cond-true, cond-false}
 use Rattle.refusals.specs.declared.Refusal.{Refusal}
 use Rattle.rings.specs.Kinds.{Kind}
 use Rattle.rings.specs.declared.ring.Ring.{Ghosts}
@@ -29,7 +30,7 @@ use Rattle.areas.proofs.Shares.{area_end}
 use Rattle.areas.proofs.Same.{same_rows, stored_rows, cleared_rows}
 use Rattle.refusals.specs.declared.Refusal.TheVariants.{Place}
 use Rattle.areas.proofs.Same.{fresh_rows}
-use Rattle.sheets.specs.States.{State, placed, opened as opened_state, kept as kept_state}
+use Rattle.sheets.specs.States.{placed, opened as opened_state, kept as kept_state}
 use Rattle.sheets.specs.Desks.{state, Blank}
 use Rattle.sheets.specs.Calls.{all_placed, added, constant_rows as constant_in, variable_rows as variable_in}
 use Rattle.sheets.specs.Lent.{Lent, lent_of, room, count, place, opened, stored, cleared, settled, kept, add_answer, add_leaves, constant_rows, variable_rows}
@@ -123,13 +124,9 @@ module _ {V : Type 0} {G : Ghosts V} (s t : Desk V G) (b : Blank s) (d : Blank t
   lent_kept r (Err x) h e = lent_same e
 
 -- ---- the end of a call
-kept_lent : {V : Type 0} (s : State V) (r : ℕ) (a : Result (List (Row V)) Refusal) → (kept_state s r a).lent ≡ s.lent
-kept_lent s r (Ok xs) = refl
-kept_lent s r (Err x) = refl
-
 module _ {V : Type 0} {G : Ghosts V} (s u : Desk V G) (r : ℕ) (a : Result (List (Row V)) Refusal) (answer : Result (Unit {0}) Refusal) (e : Ended s u r a answer) where
   pub ended_lent : length u.areas.rows.now ≡ length s.areas.rows.now
-  ended_lent = ap (λ d. d.lent) e.leaves ∙ kept_lent (state s) r a
+  ended_lent = e.long
 
   pub left_lent : Blank s → ((xs : List (Row V)) → a ≡ Ok xs → r < 8) → lent_of u ≡ kept G.kind (lent_of s) r a
   left_lent b h = lent_kept s u b (e.blank b) ended_lent r a h e.leaves
@@ -137,6 +134,19 @@ module _ {V : Type 0} {G : Ghosts V} (s u : Desk V G) (r : ℕ) (a : Result (Lis
 -- a refusal leaves the lent rows
 pub refused_lent : {V : Type 0} (K : Kind V) (l : Lent V) (r : ℕ) (a : Result (List (Row V)) Refusal) (x : Refusal) → a ≡ Err x → l ≡ kept K l r a
 refused_lent K l r a x e = ap (kept K l r) (sym e)
+
+module _ {V : Type 0} (K : Kind V) (l : Lent V) (r p q : ℕ) (a : Result (List (Row V)) Refusal) where
+  misplaced : all_placed r p q ≡ false → l ≡ kept K l r (cond (all_placed r p q) a (Err Place))
+  misplaced e = refused_lent K l r _ Place (cond-false (all_placed r p q) a (Err Place) e)
+
+  pub misplaced_first : 8 ≤ r → l ≡ kept K l r (cond (all_placed r p q) a (Err Place))
+  misplaced_first h = misplaced (and_left (placed r) (placed p && placed q) (le-ltb r 8 h))
+
+  pub misplaced_second : 8 ≤ p → l ≡ kept K l r (cond (all_placed r p q) a (Err Place))
+  misplaced_second h = misplaced (and_right (placed r) (placed p && placed q) (and_left (placed p) (placed q) (le-ltb p 8 h)))
+
+  pub misplaced_third : 8 ≤ q → l ≡ kept K l r (cond (all_placed r p q) a (Err Place))
+  misplaced_third h = misplaced (and_right (placed r) (placed p && placed q) (and_right (placed p) (placed q) (le-ltb q 8 h)))
 
 -- ---- a sheet that was opened
 module _ {V : Type 0} {G : Ghosts V} (s : Desk V G) (b : Blank s) where

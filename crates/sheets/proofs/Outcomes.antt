@@ -56,13 +56,15 @@ pub record Ended {V : Type 0} {G : Ghosts V} (s u : Desk V G) (r : ℕ) (a : Res
   pub answers : answer ≡ answered a
   pub leaves : state u ≡ kept (state s) r a
   pub blank : Blank s → Blank u
+  pub long : (contents u.areas).lent ≡ (contents s.areas).lent
 
 module _ {V : Type 0} {G : Ghosts V} (s : Desk V G) where
-  pub ends : (n : ℕ) → 8 ≤ n → (t u : Desk V G) (r : ℕ) (a : Result (List (Row V)) Refusal) (made : Result ℕ Refusal) (answer : Result (Unit {0}) Refusal) → Making n s t a made → answer ≡ ended made → state u ≡ finished (state t) (contents t.areas) r made → Blank u → Ended s u r a answer
-  ends n h t u r a made answer m answers leaves blank = record {
+  pub ends : (n : ℕ) → 8 ≤ n → (t u : Desk V G) (r : ℕ) (a : Result (List (Row V)) Refusal) (made : Result ℕ Refusal) (answer : Result (Unit {0}) Refusal) → Making n s t a made → answer ≡ ended made → state u ≡ finished (state t) (contents t.areas) r made → Blank u → (contents u.areas).lent ≡ (contents t.areas).lent → Ended s u r a answer
+  ends n h t u r a made answer m answers leaves blank long = record {
     answers = answers ∙ making_ended n h s t a made m;
     leaves = leaves ∙ making_kept n h s t a made m r;
     blank = λ b. blank;
+    long = long ∙ m.lent;
   }
 
   pub written : (u : Desk V G) (r : ℕ) (xs : List (Row V)) → r < 8 → contents u.areas ≡ storing (contents s.areas) r xs → u.format ≡ s.format → Ended s u r (Ok xs) (Ok tt)
@@ -70,6 +72,7 @@ module _ {V : Type 0} {G : Ghosts V} (s : Desk V G) where
     answers = refl;
     leaves = (λ i. seen (is i) (variables (format i))) ∙ seen-place (contents s.areas) (variables s.format) r xs h;
     blank = λ b a low high. ap (λ c. c.tables a) is ∙ table-other (contents s.areas) r xs a (λ e. omega arith) ∙ b a low high;
+    long = ap (λ c. c.lent) is;
   }
 
   -- the place was told by its number

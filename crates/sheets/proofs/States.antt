@@ -6,7 +6,7 @@
 --     seen-place                   storing in a place stores there
 --     few-rows                     a place has no more rows than it has room for
 --     seen-fresh                   areas that were opened
---     swept_places, swept_areas    the four working areas, emptied
+--     swept_places, swept_areas, swept_lent    the four working areas, emptied
 --     stored-made, stored-none     a result that was made, in its place, and one that was refused
 --     passed                       a pass into a working area makes what it leaves there
 --     before                       another area was written before
@@ -42,15 +42,15 @@ module _ {V : Type 0} (c : Contents V) (a : ℕ) (xs : List (Row V)) where
   table-other o ne = cond-false _ xs (c.tables o) (and_left _ _ (ne_eqb o a ne))
 
 -- ---- states
-pub seen_same : {V : Type 0} (c d : Contents V) (vs : List Variable) → d.lent ≡ c.lent → d.room ≡ c.room → ((p : ℕ) → p < 8 → d.tables p ≡ c.tables p) → seen d vs ≡ seen c vs
-seen_same {V} c d vs lent room tables =
+pub seen_same : {V : Type 0} (c d : Contents V) (vs : List Variable) → d.room ≡ c.room → ((p : ℕ) → p < 8 → d.tables p ≡ c.tables p) → seen d vs ≡ seen c vs
+seen_same {V} c d vs room tables =
     let place : (p : ℕ) → cond (placed p) (d.tables p) [] ≡ cond (placed p) (c.tables p) [] =
     λ p. cond_both (placed p) (d.tables p) [] (λ xs. xs ≡ cond (placed p) (c.tables p) []) (λ t. tables p (ltb-true p 8 t) ∙ sym (cond-true _ _ _ t)) (λ t. sym (cond-false _ _ _ t)) in
-    λ i. record { lent = lent i; room = room i; places = λ p. place p i; vars = vs }
+    λ i. record { room = room i; places = λ p. place p i; vars = vs }
 
 module _ {V : Type 0} (c : Contents V) (vs : List Variable) where
   pub seen-working : (a : ℕ) (xs : List (Row V)) → 8 ≤ a → seen (storing c a xs) vs ≡ seen c vs
-  seen-working a xs h = seen_same c (storing c a xs) vs refl refl (λ p l. table-other c a xs p (λ e. omega arith))
+  seen-working a xs h = seen_same c (storing c a xs) vs refl (λ p l. table-other c a xs p (λ e. omega arith))
 
   pub seen-place : (r : ℕ) (xs : List (Row V)) → r < 8 → seen (storing c r xs) vs ≡ stored (seen c vs) r xs
   seen-place r xs h =
@@ -58,7 +58,7 @@ module _ {V : Type 0} (c : Contents V) (vs : List Variable) where
       λ p. ⊎_elim (λ e. cond-true _ _ _ (lt-ltb p 8 (omega arith)) ∙ ap (storing c r xs).tables e ∙ table-there c r xs (omega arith) ∙ sym (cond-true _ _ _ (eq-eqb p r e)))
       (λ ne. ap (λ ys. cond (placed p) ys []) (table-other c r xs p ne) ∙ sym (cond-false _ _ _ (ne_eqb p r ne)))
       (cases_eq p r) in
-      λ i. record { lent = c.lent; room = c.room; places = λ p. place p i; vars = vs }
+      λ i. record { room = c.room; places = λ p. place p i; vars = vs }
 
 pub few-rows : {V : Type 0} {G : Ghosts V} (s : Desk V G) (p : ℕ) → length ((state s).places p) ≤ (state s).room
 few-rows s p =
@@ -68,7 +68,7 @@ few-rows s p =
     cond_both (placed p) (c.tables p) [] (λ xs. length xs ≤ c.room) (λ _. omega arith) (λ _. omega arith)
 
 pub seen-fresh : {V : Type 0} (c : Contents V) (n : ℕ) (vs : List Variable) → c ≡ fresh n → seen c vs ≡ opened n vs
-seen-fresh c n vs is = ap (λ d. seen d vs) is ∙ (λ i. record { lent = n; room = capacity n; places = λ p. cond_both (placed p) [] [] (λ xs. xs ≡ []) (λ _. refl) (λ _. refl) i; vars = vs })
+seen-fresh c n vs is = ap (λ d. seen d vs) is ∙ (λ i. record { room = capacity n; places = λ p. cond_both (placed p) [] [] (λ xs. xs ≡ []) (λ _. refl) (λ _. refl) i; vars = vs })
 
 -- ---- the working areas emptied, one after the other
 module _ {V : Type 0} (c d : Contents V) (b : ℕ) (is : d ≡ storing c b []) where
@@ -83,6 +83,9 @@ module _ {V : Type 0} (c c₈ c₉ c₁₀ c₁₁ : Contents V) (e₈ : c₈ �
   swept_places vs =
       ap (λ e. seen e vs) e₁₁ ∙ seen-working c₁₀ vs 11 [] (omega arith) ∙ ap (λ e. seen e vs) e₁₀ ∙ seen-working c₉ vs 10 [] (omega arith)
       ∙ ap (λ e. seen e vs) e₉ ∙ seen-working c₈ vs 9 [] (omega arith) ∙ ap (λ e. seen e vs) e₈ ∙ seen-working c vs 8 [] (omega arith)
+
+  pub swept_lent : c₁₁.lent ≡ c.lent
+  swept_lent = ap (λ e. e.lent) e₁₁ ∙ ap (λ e. e.lent) e₁₀ ∙ ap (λ e. e.lent) e₉ ∙ ap (λ e. e.lent) e₈
 
   pub swept_areas : (a : ℕ) → 8 ≤ a → a < 12 → c₁₁.tables a ≡ []
   swept_areas a low high =
@@ -128,7 +131,7 @@ module _ {V : Type 0} {G : Ghosts V} where
 
   module _ (n : ℕ) (places : 8 ≤ n) (s t : Desk V G) (a : Result (List (Row V)) Refusal) (made : Result ℕ Refusal) (m : Making n s t a made) where
     pub making_state : state t ≡ state s
-    making_state = ap (λ f. seen (contents t.areas) (variables f)) m.format ∙ seen_same (contents s.areas) (contents t.areas) (variables s.format) m.lent m.room (λ p l. m.others p (omega arith))
+    making_state = ap (λ f. seen (contents t.areas) (variables f)) m.format ∙ seen_same (contents s.areas) (contents t.areas) (variables s.format) m.room (λ p l. m.others p (omega arith))
 
     pub making_ended : ended made ≡ answered a
     making_ended = by made ∙ ap answered m.result

@@ -1,5 +1,5 @@
 -- A sheet as plain data.
---     State V             how many rows are lent, the room of a place, the table in each, and the format's variables
+--     State V             the room of a place, the table in each, and the format's variables
 --     placed p            whether p is the number of a place
 --     seen c vs           the state of a sheet whose areas hold c
 --     opened n vs         the state of a sheet that was opened on n rows
@@ -13,7 +13,6 @@ use Rattle.areas.specs.Shares.{capacity}
 use Rattle.areas.specs.Areas.{Contents}
 
 pub record State (V : Type 0) : Type 0 where
-  pub lent : ℕ
   pub room : ℕ
   pub places : ℕ → List (Row V)
   pub vars : List Variable
@@ -22,13 +21,13 @@ abbrev pub placed : ℕ → Bool
 placed p = nat_lt p 8
 
 abbrev pub seen : {V : Type 0} → Contents V → List Variable → State V
-seen c vs = record { lent = c.lent; room = c.room; places = λ p. cond (placed p) (c.tables p) []; vars = vs }
+seen c vs = record { room = c.room; places = λ p. cond (placed p) (c.tables p) []; vars = vs }
 
 abbrev pub opened : {V : Type 0} → ℕ → List Variable → State V
-opened n vs = record { lent = n; room = capacity n; places = λ _. []; vars = vs }
+opened n vs = record { room = capacity n; places = λ _. []; vars = vs }
 
 abbrev pub stored : {V : Type 0} → State V → ℕ → List (Row V) → State V
-stored s r xs = record { lent = s.lent; room = s.room; places = λ p. cond (p == r) xs (s.places p); vars = s.vars }
+stored s r xs = record { room = s.room; places = λ p. cond (p == r) xs (s.places p); vars = s.vars }
 
 abbrev pub kept : {V : Type 0} → State V → ℕ → Result (List (Row V)) Refusal → State V
 kept s r (Ok xs) = stored s r xs

@@ -2,6 +2,7 @@
 ghost use Rattle.std.specs.Prelude.{◌≡◌};
 ghost use Rattle.areas.specs.Areas.{answered};
 ghost use Rattle.sheets.specs.States.{kept};
+ghost use Rattle.sheets.specs.Desks.{Blank};
 ghost use Rattle.sheets.specs.Sheets.{state, lent};
 ghost use Rattle.sheets.specs.Lent.{add_answer, add_leaves};
 ghost use Rattle.sheets.specs.Sums.{Adding as AddingRows};
@@ -20,7 +21,8 @@ impl<K: Ring> Sheet<'_, K> {
         ensures answer { result ≡ answered (added K.kind (state self.old) res left right) }
         ensures leaves { state self.new ≡ kept (state self.old) res (added K.kind (state self.old) res left right) }
         ensures told { result ≡ answered (add_answer K.kind (lent self.old) res left right) }
-        ensures lent { lent self.new ≡ add_leaves K.kind (lent self.old) res left right }
+        ensures blank { Blank self.old.desk → Blank self.new.desk }
+        ensures lent { Blank self.old.desk → lent self.new ≡ add_leaves K.kind (lent self.old) res left right }
         ensures sums { AddingRows K.kind (lent self.old) (lent self.new) res left right result }
         ensures algebra { Adding K.kind (state self.old) (state self.new) result res left right }
     {

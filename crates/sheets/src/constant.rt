@@ -2,6 +2,7 @@
 ghost use Rattle.std.specs.Prelude.{◌≡◌};
 ghost use Rattle.areas.specs.Areas.{answered};
 ghost use Rattle.sheets.specs.States.{kept};
+ghost use Rattle.sheets.specs.Desks.{Blank};
 ghost use Rattle.sheets.specs.Sheets.{state, lent};
 ghost use Rattle.sheets.specs.Lent.{constant_answer, kept as kept_rows};
 ghost use Rattle.sheets.specs.Calls.{constant};
@@ -19,7 +20,8 @@ impl<K: Ring> Sheet<'_, K> {
         ensures answer { result ≡ answered (constant K.kind (state self.old) res first second) }
         ensures leaves { state self.new ≡ kept (state self.old) res (constant K.kind (state self.old) res first second) }
         ensures told { result ≡ answered (constant_answer K.kind (lent self.old) res first second) }
-        ensures lent { lent self.new ≡ kept_rows K.kind (lent self.old) res (constant_answer K.kind (lent self.old) res first second) }
+        ensures blank { Blank self.old.desk → Blank self.new.desk }
+        ensures lent { Blank self.old.desk → lent self.new ≡ kept_rows K.kind (lent self.old) res (constant_answer K.kind (lent self.old) res first second) }
         ensures algebra { Constant K.kind (state self.old) (state self.new) result res first second }
     {
         let res = Place::try_from(res)?;

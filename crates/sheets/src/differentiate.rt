@@ -3,6 +3,7 @@ ghost use Rattle.std.specs.Prelude.{◌≡◌};
 ghost use Rattle.formats.specs.Drafts.{variables};
 ghost use Rattle.areas.specs.Areas.{answered};
 ghost use Rattle.sheets.specs.States.{kept};
+ghost use Rattle.sheets.specs.Desks.{Blank};
 ghost use Rattle.sheets.specs.Sheets.{state, lent};
 ghost use Rattle.sheets.specs.Lent.{kept as kept_rows};
 ghost use Rattle.sheets.specs.Calls.{differentiated};
@@ -47,7 +48,8 @@ impl<K: Ring> Sheet<'_, K> {
     ) -> Result<(), Refusal>
         ensures answer { result ≡ answered (differentiated K.kind (state self.old) res place variable) }
         ensures leaves { state self.new ≡ kept (state self.old) res (differentiated K.kind (state self.old) res place variable) }
-        ensures lent { lent self.new ≡ kept_rows K.kind (lent self.old) res (differentiated K.kind (state self.old) res place variable) }
+        ensures blank { Blank self.old.desk → Blank self.new.desk }
+        ensures lent { Blank self.old.desk → lent self.new ≡ kept_rows K.kind (lent self.old) res (differentiated K.kind (state self.old) res place variable) }
         ensures algebra { Differentiating K.kind (state self.old) (state self.new) result res place variable }
     {
         let res = Place::try_from(res)?;

@@ -5,6 +5,7 @@ ghost use Rattle.areas.specs.Areas.{answered};
 ghost use Rattle.arithmetic.specs.Dividing.{opposed, leading as leading_quotient, quotient as quotient_rows};
 ghost use Rattle.sheets.specs.Desks as desks;
 ghost use Rattle.sheets.specs.States.{kept};
+ghost use Rattle.sheets.specs.Desks.{Blank};
 ghost use Rattle.sheets.specs.Sheets.{state, lent};
 ghost use Rattle.sheets.specs.Lent.{kept as kept_rows};
 ghost use Rattle.sheets.specs.Calls.{divided};
@@ -67,7 +68,8 @@ impl<K: Domain> Sheet<'_, K> {
     pub fn divide(&mut self, res: usize, left: usize, right: usize) -> Result<(), Refusal>
         ensures answer { result ≡ answered (divided K.Ring.kind K.quotient (state self.old) res left right) }
         ensures leaves { state self.new ≡ kept (state self.old) res (divided K.Ring.kind K.quotient (state self.old) res left right) }
-        ensures lent { lent self.new ≡ kept_rows K.Ring.kind (lent self.old) res (divided K.Ring.kind K.quotient (state self.old) res left right) }
+        ensures blank { Blank self.old.desk → Blank self.new.desk }
+        ensures lent { Blank self.old.desk → lent self.new ≡ kept_rows K.Ring.kind (lent self.old) res (divided K.Ring.kind K.quotient (state self.old) res left right) }
         ensures algebra { K.Ring.whole ≡ true → Dividing K.Ring.kind (state self.old) (state self.new) result res left right }
     {
         let res = Place::try_from(res)?;

@@ -21,6 +21,7 @@ impl<K: Ring> Desk<'_, K> {
     pub(crate) fn sweep(&mut self)
         ensures leaves { state self.new ≡ state self.old }
         ensures blank { Blank self.new }
+        ensures long { (contents self.new.areas).lent ≡ (contents self.old.areas).lent }
     {
         self.areas.clear(8);
         self.areas.clear(9);
@@ -33,6 +34,7 @@ impl<K: Ring> Desk<'_, K> {
         ensures answer { result ≡ ended made }
         ensures leaves { state self.new ≡ finished (state self.old) (contents self.old.areas) res.area made }
         ensures blank { Blank self.new }
+        ensures long { (contents self.new.areas).lent ≡ (contents self.old.areas).lent }
     {
         if let Ok(area) = made {
             self.areas.copy(res.area, area);

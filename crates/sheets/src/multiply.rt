@@ -2,6 +2,7 @@
 ghost use Rattle.std.specs.Prelude.{◌≡◌};
 ghost use Rattle.areas.specs.Areas.{answered};
 ghost use Rattle.sheets.specs.States.{kept};
+ghost use Rattle.sheets.specs.Desks.{Blank};
 ghost use Rattle.sheets.specs.Sheets.{state, lent};
 ghost use Rattle.sheets.specs.Lent.{kept as kept_rows};
 ghost use Rattle.sheets.specs.Calls.{multiplied};
@@ -17,7 +18,8 @@ impl<K: Ring> Sheet<'_, K> {
     pub fn multiply(&mut self, res: usize, left: usize, right: usize) -> Result<(), Refusal>
         ensures answer { result ≡ answered (multiplied K.kind (state self.old) res left right) }
         ensures leaves { state self.new ≡ kept (state self.old) res (multiplied K.kind (state self.old) res left right) }
-        ensures lent { lent self.new ≡ kept_rows K.kind (lent self.old) res (multiplied K.kind (state self.old) res left right) }
+        ensures blank { Blank self.old.desk → Blank self.new.desk }
+        ensures lent { Blank self.old.desk → lent self.new ≡ kept_rows K.kind (lent self.old) res (multiplied K.kind (state self.old) res left right) }
         ensures algebra { Multiplying K.kind (state self.old) (state self.new) result res left right }
     {
         let res = Place::try_from(res)?;

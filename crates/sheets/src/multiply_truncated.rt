@@ -4,6 +4,7 @@ ghost use Rattle.areas.specs.Areas.{answered};
 ghost use Rattle.arithmetic.specs.Truncating.{product_truncated};
 ghost use Rattle.sheets.specs.Desks as desks;
 ghost use Rattle.sheets.specs.States.{kept};
+ghost use Rattle.sheets.specs.Desks.{Blank};
 ghost use Rattle.sheets.specs.Sheets.{state, lent};
 ghost use Rattle.sheets.specs.Lent.{kept as kept_rows};
 ghost use Rattle.sheets.specs.Calls.{multiplied_truncated};
@@ -54,7 +55,8 @@ impl<K: Ring> Sheet<'_, K> {
     ) -> Result<(), Refusal>
         ensures answer { result ≡ answered (multiplied_truncated K.kind (state self.old) res left right count most) }
         ensures leaves { state self.new ≡ kept (state self.old) res (multiplied_truncated K.kind (state self.old) res left right count most) }
-        ensures lent { lent self.new ≡ kept_rows K.kind (lent self.old) res (multiplied_truncated K.kind (state self.old) res left right count most) }
+        ensures blank { Blank self.old.desk → Blank self.new.desk }
+        ensures lent { Blank self.old.desk → lent self.new ≡ kept_rows K.kind (lent self.old) res (multiplied_truncated K.kind (state self.old) res left right count most) }
         ensures algebra { MultiplyingTruncated K.kind (state self.old) (state self.new) result res left right count most }
     {
         let res = Place::try_from(res)?;

@@ -4,6 +4,7 @@ ghost use Rattle.arithmetic.specs.Negating.{minus_one};
 ghost use Rattle.areas.specs.Areas.{answered};
 ghost use Rattle.sheets.specs.Desks as desks;
 ghost use Rattle.sheets.specs.States.{kept};
+ghost use Rattle.sheets.specs.Desks.{Blank};
 ghost use Rattle.sheets.specs.Sheets.{state, lent};
 ghost use Rattle.sheets.specs.Lent.{kept as kept_rows};
 ghost use Rattle.sheets.specs.Calls.{negated};
@@ -34,7 +35,8 @@ impl<K: Ring> Sheet<'_, K> {
     pub fn negate(&mut self, res: usize, place: usize) -> Result<(), Refusal>
         ensures answer { result ≡ answered (negated K.kind (state self.old) res place) }
         ensures leaves { state self.new ≡ kept (state self.old) res (negated K.kind (state self.old) res place) }
-        ensures lent { lent self.new ≡ kept_rows K.kind (lent self.old) res (negated K.kind (state self.old) res place) }
+        ensures blank { Blank self.old.desk → Blank self.new.desk }
+        ensures lent { Blank self.old.desk → lent self.new ≡ kept_rows K.kind (lent self.old) res (negated K.kind (state self.old) res place) }
         ensures algebra { Negating K.kind (state self.old) (state self.new) result res place }
     {
         let res = Place::try_from(res)?;

@@ -2,6 +2,7 @@
 ghost use Rattle.std.specs.Prelude.{◌≡◌, length};
 ghost use Rattle.formats.specs.Drafts.{variables};
 ghost use Rattle.sheets.specs.States.{opened};
+ghost use Rattle.sheets.specs.Desks.{Blank};
 ghost use Rattle.sheets.specs.Sheets.{state, lent};
 ghost use Rattle.sheets.specs.Lent.{opened as opened_rows};
 
@@ -16,6 +17,7 @@ impl<'a, K: Ring> Sheet<'a, K> {
     // A sheet on the rows, with every place empty. What the rows held is gone.
     pub fn open(rows: &'a mut [Row<K>], format: Format) -> Sheet<'a, K>
         ensures state { state result ≡ opened (length rows.old) (variables format) }
+        ensures blank { Blank result.desk }
         ensures lent { lent result ≡ opened_rows K.kind (length rows.old) (variables format) }
     {
         let areas = Areas::open(rows);

@@ -4,10 +4,12 @@ ghost use Rattle.rows.specs.Tables.{row as row_of, sum, limited};
 ghost use Rattle.areas.specs.Areas.{answered, rows_of};
 ghost use Rattle.sheets.specs.States.{kept};
 ghost use Rattle.sheets.specs.Desks.{state, Blank};
+ghost use Rattle.sheets.specs.Sheets.{state as state_of};
 ghost use Rattle.sheets.specs.Running.{running, below_last, entering, storing_running};
 
 use crate::desk::Desk;
 use crate::place::Place;
+use crate::sheet::Sheet;
 use refusals::Refusal;
 use rings::Ring;
 use rows::Row;
@@ -80,5 +82,41 @@ impl<K: Ring> Desk<'_, K> {
         ensures blank { Blank self.new }
     {
         self.sweep();
+    }
+}
+
+impl<K: Ring> Sheet<'_, K> {
+    // Empties the running table.
+    pub fn begin(&mut self)
+        ensures empty { running self.new.desk ≡ [] }
+        ensures leaves { state_of self.new ≡ state_of self.old }
+    {
+        self.desk.begin();
+    }
+
+    // Adds a term to the running table. Refused, that is empty.
+    pub fn enter(&mut self, key: u64, coefficient: K) -> Result<(), Refusal>
+        ensures answer { result ≡ answered (entering K.kind (state_of self.old).room (running self.old.desk) (row_of key coefficient)) }
+        ensures made { running self.new.desk ≡ rows_of (entering K.kind (state_of self.old).room (running self.old.desk) (row_of key coefficient)) }
+        ensures leaves { state_of self.new ≡ state_of self.old }
+    {
+        self.desk.enter(key, coefficient)
+    }
+
+    // Makes the running table the rows of a place, and empties it.
+    pub fn store(&mut self, place: usize) -> Result<(), Refusal>
+        ensures answer { result ≡ answered (storing_running self.old.desk place) }
+        ensures leaves { state_of self.new ≡ kept (state_of self.old) place (storing_running self.old.desk place) }
+        ensures blank { Blank self.new.desk }
+    {
+        self.desk.store(place)
+    }
+
+    // Gives the running table up.
+    pub fn abandon(&mut self)
+        ensures leaves { state_of self.new ≡ state_of self.old }
+        ensures blank { Blank self.new.desk }
+    {
+        self.desk.abandon();
     }
 }

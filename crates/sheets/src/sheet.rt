@@ -1,12 +1,9 @@
-// The sheet itself: a desk at rest.
-ghost use Rattle.sheets.specs.Desks.{Blank};
-
+// The sheet itself.
 use crate::desk::Desk;
 use rings::Ring;
 
-// Between calls every lent row that is no row of a place is blank. A crate that works on the desk has to bring it to rest again.
+// At rest its working areas are empty, so that every lent row that is no row of a place is blank. It is at rest when it was opened, and each call leaves at rest what was at rest; while its running table is filled it is not.
 #[derive(Drop)]
 pub struct Sheet<'a, K: Ring> {
     pub desk: Desk<'a, K>,
-    ghost at_rest: { Blank desk },
 }

@@ -7,6 +7,7 @@ ghost use Rattle.arithmetic.specs.Deriving.{with_power};
 ghost use Rattle.arithmetic.specs.Substituting.{raised, term_raised, substituted as substituted_rows};
 ghost use Rattle.sheets.specs.Desks as desks;
 ghost use Rattle.sheets.specs.States.{kept};
+ghost use Rattle.sheets.specs.Desks.{Blank};
 ghost use Rattle.sheets.specs.Sheets.{state, lent};
 ghost use Rattle.sheets.specs.Lent.{kept as kept_rows};
 ghost use Rattle.sheets.specs.Calls.{substituted};
@@ -98,7 +99,8 @@ impl<K: Ring> Sheet<'_, K> {
     ) -> Result<(), Refusal>
         ensures answer { result ≡ answered (substituted K.kind (state self.old) res left right variable) }
         ensures leaves { state self.new ≡ kept (state self.old) res (substituted K.kind (state self.old) res left right variable) }
-        ensures lent { lent self.new ≡ kept_rows K.kind (lent self.old) res (substituted K.kind (state self.old) res left right variable) }
+        ensures blank { Blank self.old.desk → Blank self.new.desk }
+        ensures lent { Blank self.old.desk → lent self.new ≡ kept_rows K.kind (lent self.old) res (substituted K.kind (state self.old) res left right variable) }
         ensures algebra { Substituting K.kind (state self.old) (state self.new) result res left right variable }
     {
         let res = Place::try_from(res)?;

@@ -4,6 +4,7 @@ ghost use Rattle.rows.specs.Tables.{row, limited};
 ghost use Rattle.areas.specs.Areas.{answered};
 ghost use Rattle.sheets.specs.Desks as desks;
 ghost use Rattle.sheets.specs.States.{kept};
+ghost use Rattle.sheets.specs.Desks.{Blank};
 ghost use Rattle.sheets.specs.Sheets.{state, lent};
 ghost use Rattle.sheets.specs.Lent.{variable_answer, kept as kept_rows};
 ghost use Rattle.sheets.specs.Calls.{variable as variable_table};
@@ -34,7 +35,8 @@ impl<K: Ring> Sheet<'_, K> {
         ensures answer { result ≡ answered (variable_table K.kind (state self.old) res variable) }
         ensures leaves { state self.new ≡ kept (state self.old) res (variable_table K.kind (state self.old) res variable) }
         ensures told { result ≡ answered (variable_answer K.kind (lent self.old) res variable) }
-        ensures lent { lent self.new ≡ kept_rows K.kind (lent self.old) res (variable_answer K.kind (lent self.old) res variable) }
+        ensures blank { Blank self.old.desk → Blank self.new.desk }
+        ensures lent { Blank self.old.desk → lent self.new ≡ kept_rows K.kind (lent self.old) res (variable_answer K.kind (lent self.old) res variable) }
         ensures algebra { VariableOf K.kind (state self.old) (state self.new) result res variable }
     {
         let res = Place::try_from(res)?;

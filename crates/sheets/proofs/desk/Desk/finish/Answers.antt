@@ -15,3 +15,13 @@ returns-clause-leaves g c =
       | in_default w ↦ stored-none s u c.args.res.area c.args.made (λ a e. w.in_default.not-Ok a e) w.self-is
     ] in
     c.sweep.ensures.leaves ∙ stored
+
+pub returns-clause-long : goal.returns-clause-long
+returns-clause-long g c =
+    let s = c.args.self.now in
+    let u = c.match-made.self in
+    let as-long : (contents u.areas).lent ≡ (contents s.areas).lent = elim c.match-made.branch [
+      | in-Ok w ↦ ap (λ u. (contents u.areas).lent) w.self-is ∙ ap (λ c. c.lent) w.copy.ensures.leaves
+      | in_default w ↦ ap (λ u. (contents u.areas).lent) w.self-is
+    ] in
+    c.sweep.ensures.long ∙ as-long

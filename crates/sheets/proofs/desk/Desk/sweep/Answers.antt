@@ -1,6 +1,6 @@
 use Rattle.formats.specs.Drafts.{variables}
 use Rattle.areas.specs.Areas.{contents}
-use Rattle.sheets.proofs.States.{swept_places, swept_areas}
+use Rattle.sheets.proofs.States.{swept_places, swept_areas, swept_lent}
 use Rattle.sheets.proofs.desk.Desk.sweep.Goals as goal
 
 pub returns : goal.returns
@@ -17,4 +17,5 @@ returns g c =
     record {
       leaves = swept_places was c₈ c₉ c₁₀ c₁₁ e₈ e₉ e₁₀ e₁₁ (variables c.args.self.now.format);
       blank = swept_areas was c₈ c₉ c₁₀ c₁₁ e₈ e₉ e₁₀ e₁₁;
+      long = swept_lent was c₈ c₉ c₁₀ c₁₁ e₈ e₉ e₁₀ e₁₁;
     }

@@ -27,13 +27,14 @@ returns g c =
     let a = limit (state s) (sum K ((state s).places p) ((state s).places q)) in
     let same : added_areas K (contents s.areas) 8 c.in_ok-left.left.area c.in_ok-right.right.area ≡ a = cond-true _ _ _ (apart_areas 8 c.in_ok-left.left.area c.in_ok-right.right.area (omega arith) (omega arith) (omega arith) (λ x. omega arith) (λ x. omega arith)) ∙ (λ i. limited (state s).room (sum K (place-found s c.in_ok-left.left.area p ep i) (place-found s c.in_ok-right.right.area q eq i))) in
     let m = passed 8 8 s t (added_areas K (contents s.areas) 8 c.in_ok-left.left.area c.in_ok-right.right.area) c.add-answer.result c.made_in.result (omega arith) (omega arith) c.add-answer.ensures.leaves refl c.add-answer.ensures.answer c.made_in.ensures in
-    let e = named s u c.in_ok-res.res.area r a c.finish.result er (ends s 8 (omega arith) t u c.in_ok-res.res.area a c.made_in.result c.finish.result (subst (λ x. Making 8 s t x c.made_in.result) same m) c.finish.ensures.answer c.finish.ensures.leaves c.finish.ensures.blank) in
+    let e = named s u c.in_ok-res.res.area r a c.finish.result er (ends s 8 (omega arith) t u c.in_ok-res.res.area a c.made_in.result c.finish.result (subst (λ x. Making 8 s t x c.made_in.result) same m) c.finish.ensures.answer c.finish.ensures.leaves c.finish.ensures.blank c.finish.ensures.long) in
     let w = tested s u r a c.finish.result _ (three_placed r p q er.1 ep.1 eq.1) e in
     record {
       answer = w.answers;
       leaves = w.leaves;
       told = w.answers ∙ ap answered (sym (added-is K s r p q));
-      lent = lent_added s u c.args.self.now.at_rest (w.blank c.args.self.now.at_rest) (ended_lent s u r _ _ w) r p q w.leaves;
+      blank = w.blank;
+      lent = λ b. lent_added s u b (w.blank b) (ended_lent s u r _ _ w) r p q w.leaves;
       sums = adding K s u g.met.K.Ring.ring g.met.K.Ring.values r p q c.finish.result w.answers w.leaves;
       algebra = λ f h _ hp hq. outcome K (state s) (state u) f r _ _ a c.finish.result e.answers e.leaves h ((theory K g.met.K.Ring.ring g.met.K.Ring.values s).sums (f p) (f q) ((state s).places p) ((state s).places q) (h p hp) (h q hq));
     }

@@ -30,7 +30,8 @@ returns-then-is_zero g c =
       answer = w.answers;
       leaves = w.leaves;
       told = w.answers ∙ ap answered (sym (constant_is K s r (K.make c.args.first c.args.second)));
-      lent = left_lent s u r _ _ w c.args.self.now.at_rest (λ _ _. er.1) ∙ ap (kept_rows K (lent_of s) r) (sym (constant_is K s r (K.make c.args.first c.args.second)));
+      blank = w.blank;
+      lent = λ b. left_lent s u r _ _ w b (λ _ _. er.1) ∙ ap (kept_rows K (lent_of s) r) (sym (constant_is K s r (K.make c.args.first c.args.second)));
       algebra = λ f h _. outcome K (state s) (state u) f r (constant_of K figures) (NoConstant K (state s) figures) (constant_rows K (state s) figures) (Ok tt) e.answers e.leaves h (constant_gives K g.met.K.Ring.ring (state s) figures (g.met.K.Ring.writing.made c.args.first c.args.second));
     }
 
@@ -47,17 +48,13 @@ returns g c =
     let made : figures ≡ Ok c.in_ok-coefficient.coefficient = sym (λ i. K.make (to_z-of_z w64 c.args.first c.ranges.first i) (to_z-of_z w64 c.args.second c.ranges.second i)) ∙ sym c.from_figures.ensures ∙ c.in_ok-coefficient.was in
     let one = limit (state s) (Ok (row 0 c.in_ok-coefficient.coefficient ∷ [])) in
     let same : constant_rows K (state s) figures ≡ one = ap (constant_rows K (state s)) made ∙ cond-false _ _ _ (sym c.is_zero.ensures ∙ c.if-is_zero.false) in
-    let e = subst (λ x. Ended s u r x c.finish.result) (sym same) (named s u R r one c.finish.result er (ends s 8 (omega arith) t u R one c.single-made.result c.finish.result c.single-made.ensures c.finish.ensures.answer c.finish.ensures.leaves c.finish.ensures.blank)) in
+    let e = subst (λ x. Ended s u r x c.finish.result) (sym same) (named s u R r one c.finish.result er (ends s 8 (omega arith) t u R one c.single-made.result c.finish.result c.single-made.ensures c.finish.ensures.answer c.finish.ensures.leaves c.finish.ensures.blank c.finish.ensures.long)) in
     let w = tested s u r (constant_rows K (state s) figures) c.finish.result _ (lt-ltb r 8 er.1) e in
     record {
       answer = w.answers;
       leaves = w.leaves;
       told = w.answers ∙ ap answered (sym (constant_is K s r (K.make c.args.first c.args.second)));
-      lent = left_lent s u r _ _ w c.args.self.now.at_rest (λ _ _. er.1) ∙ ap (kept_rows K (lent_of s) r) (sym (constant_is K s r (K.make c.args.first c.args.second)));
+      blank = w.blank;
+      lent = λ b. left_lent s u r _ _ w b (λ _ _. er.1) ∙ ap (kept_rows K (lent_of s) r) (sym (constant_is K s r (K.make c.args.first c.args.second)));
       algebra = λ f h _. outcome K (state s) (state u) f r (constant_of K figures) (NoConstant K (state s) figures) (constant_rows K (state s) figures) c.finish.result e.answers e.leaves h (constant_gives K g.met.K.Ring.ring (state s) figures (g.met.K.Ring.writing.made c.args.first c.args.second));
     }
-
-pub invariant_of-self : goal.invariant_of-self
-invariant_of-self g c =
-    let s = c.args.self.now.desk in
-    record { at_rest = (written s (with_areas s c.clear.new.self) c.in_ok-res.res.area [] (omega arith) c.clear.ensures.leaves refl).blank c.args.self.now.at_rest }

@@ -22,11 +22,7 @@ returns g c =
     record {
       answer = w.answers;
       leaves = w.leaves;
-      lent = left_lent s u r _ _ w c.args.self.now.at_rest (λ _ _. er.1);
+      blank = w.blank;
+      lent = λ b. left_lent s u r _ _ w b (λ _ _. er.1);
       algebra = λ f h _ hp. outcome K (state s) (state u) f r (f p) (λ _. ⊥) (Ok ((state s).places p)) (Ok tt) e.answers e.leaves h (h p hp);
     }
-
-pub invariant_of-self : goal.invariant_of-self
-invariant_of-self g c =
-    let s = c.args.self.now.desk in
-    record { at_rest = (written s (with_areas s c.copy.new.self) c.in_ok-res.res.area _ (omega arith) c.copy.ensures.leaves refl).blank c.args.self.now.at_rest }

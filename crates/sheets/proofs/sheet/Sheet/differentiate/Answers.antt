@@ -29,13 +29,14 @@ returns g c =
     let makes = row_derived K (variables s.format) v in
     let is : changed makes (table s P) ≡ a = derived-rows K (variables s.format) v (table s P) ∙ ap (derived K (state s).vars v) (place-found s P p ep) in
     let m = changing_made _ 8 (omega arith) (table s P) s t c.change_rows-answer.result c.made_in.result c.change_rows-answer.ensures.kept c.change_rows-answer.ensures.made c.made_in.ensures makes (λ x r h. search rules) in
-    let e = named s u R r a c.finish.result er (ends s 8 (omega arith) t u R a c.made_in.result c.finish.result (subst (λ x. Making 8 s t x c.made_in.result) is m) c.finish.ensures.answer c.finish.ensures.leaves c.finish.ensures.blank) in
+    let e = named s u R r a c.finish.result er (ends s 8 (omega arith) t u R a c.made_in.result c.finish.result (subst (λ x. Making 8 s t x c.made_in.result) is m) c.finish.ensures.answer c.finish.ensures.leaves c.finish.ensures.blank c.finish.ensures.long) in
     let here : v < length (state s).vars = subst (λ n. v < n) c.count.ensures c.if-variable-count.false in
     let told : differentiated K (state s) r p v ≡ a = cond-true _ _ _ (two_placed r p er.1 ep.1) ∙ cond-true _ _ _ (lt-ltb v (length (state s).vars) here) in
     let w = subst (λ x. Ended s u r x c.finish.result) (sym told) e in
     record {
       answer = w.answers;
       leaves = w.leaves;
-      lent = left_lent s u r _ _ w c.args.self.now.at_rest (λ _ _. er.1);
+      blank = w.blank;
+      lent = λ b. left_lent s u r _ _ w b (λ _ _. er.1);
       algebra = λ l f h _ hp. outcome K (state s) (state u) f r _ _ a c.finish.result e.answers e.leaves h ((theory K g.met.K.Ring.ring g.met.K.Ring.values s).derivatives v (f p) ((state s).places p) l (h p hp));
     }

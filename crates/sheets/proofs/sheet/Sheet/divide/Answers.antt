@@ -1,6 +1,4 @@
-use Rattle.std.proofs.Common.{◌≡◌, ltb, subst, arith}
-use Rattle.std.proofs.lemmas.Bool.{le-ltb, and_left, and_right, cond-false}
-use Rattle.refusals.specs.declared.Refusal.TheVariants.{Place}
+use Rattle.std.proofs.Common.{◌≡◌, subst, arith}
 use Rattle.sheets.specs.Lent.{lent_of}
 use Rattle.formats.proofs.Keys.{sound}
 use Rattle.arithmetic.specs.Dividing.{quotient}
@@ -10,7 +8,7 @@ use Rattle.sheets.specs.Ends.{Making}
 use Rattle.sheets.specs.Working.{table}
 use Rattle.sheets.proofs.Outcomes.{three_placed, place-found, named, ends, tested}
 use Rattle.sheets.proofs.Divisions.{divides}
-use Rattle.sheets.proofs.LentRows.{left_lent, refused_lent}
+use Rattle.sheets.proofs.LentRows.{left_lent, misplaced_first, misplaced_second, misplaced_third}
 use Rattle.sheets.proofs.sheet.Sheet.divide.Goals as goal
 
 pub returns : goal.returns
@@ -29,17 +27,21 @@ returns g c =
     let a = quotient K over (state s).vars (state s).room ((state s).places p) ((state s).places q) in
     let same : quotient K over (state s).vars (state s).room (table s c.in_ok-left.left.area) (table s c.in_ok-right.right.area) ≡ a =
     (λ i. quotient K over (state s).vars (state s).room (place-found s c.in_ok-left.left.area p ep i) (place-found s c.in_ok-right.right.area q eq i)) in
-    let e = named s u c.in_ok-res.res.area r a c.finish.result er (ends s 8 (omega arith) t u c.in_ok-res.res.area a c.quotient_in-made.result c.finish.result (subst (λ x. Making 8 s t x c.quotient_in-made.result) same c.quotient_in-made.ensures) c.finish.ensures.answer c.finish.ensures.leaves c.finish.ensures.blank) in
+    let e = named s u c.in_ok-res.res.area r a c.finish.result er (ends s 8 (omega arith) t u c.in_ok-res.res.area a c.quotient_in-made.result c.finish.result (subst (λ x. Making 8 s t x c.quotient_in-made.result) same c.quotient_in-made.ensures) c.finish.ensures.answer c.finish.ensures.leaves c.finish.ensures.blank c.finish.ensures.long) in
     let w = tested s u r a c.finish.result _ (three_placed r p q er.1 ep.1 eq.1) e in
     record {
       answer = w.answers;
       leaves = w.leaves;
-      lent = left_lent s u r _ _ w c.args.self.now.at_rest (λ _ _. er.1);
+      blank = w.blank;
+      lent = λ b. left_lent s u r _ _ w b (λ _ _. er.1);
       algebra = λ whole f h _ hp hq. divides K (state s) f r (f p) (f q) h (state u) a c.finish.result e.answers e.leaves ((exact_division_lem K over g.met.K.Ring.ring g.met.K.Ring.values g.met.K.Domain.division (g.met.K.Ring.wholeness whole) (state s).vars (state s).room (sound s.format).narrow).quotients (f p) (f q) ((state s).places p) ((state s).places q) (h p hp) (h q hq));
     }
 
 pub returns-in_err-res-clause-lent : goal.returns-in_err-res-clause-lent
-returns-in_err-res-clause-lent g c = refused_lent g.K.Ring.kind (lent_of c.args.self.now.desk) c.args.res _ Place (cond-false _ _ _ (and_left (ltb c.args.res 8) _ (le-ltb c.args.res 8 c.in_err-res.ensures.0)))
+returns-in_err-res-clause-lent g c = λ _. misplaced_first g.K.Ring.kind (lent_of c.args.self.now.desk) c.args.res c.args.left c.args.right _ c.in_err-res.ensures.0
 
 pub returns-in_err-left-clause-lent : goal.returns-in_err-left-clause-lent
-returns-in_err-left-clause-lent g c = refused_lent g.K.Ring.kind (lent_of c.args.self.now.desk) c.args.res _ Place (cond-false _ _ _ (and_right (ltb c.args.res 8) _ (and_left (ltb c.args.left 8) (ltb c.args.right 8) (le-ltb c.args.left 8 c.in_err-left.ensures.0))))
+returns-in_err-left-clause-lent g c = λ _. misplaced_second g.K.Ring.kind (lent_of c.args.self.now.desk) c.args.res c.args.left c.args.right _ c.in_err-left.ensures.0
+
+pub returns-in_err-right-clause-lent : goal.returns-in_err-right-clause-lent
+returns-in_err-right-clause-lent g c = λ _. misplaced_third g.K.Ring.kind (lent_of c.args.self.now.desk) c.args.res c.args.left c.args.right _ c.in_err-right.ensures.0

@@ -33,11 +33,12 @@ returns g c =
     let same : b ≡ a = cond-true _ _ _ (apart_areas 8 9 P (omega arith) (omega arith) (omega arith) (λ x. omega arith) (λ x. omega arith)) ∙ (λ i. limited (is i).room (joined K (empty i) (c.minus_one.ensures i) (there i))) ∙ scaled-limited K (state s).room (minus_one K) ((state s).places p) (few-rows s p) in
     let m = passed 8 8 mid t b c.add_scaled-answer.result made (omega arith) (omega arith) c.add_scaled-answer.ensures.leaves refl c.add_scaled-answer.ensures.answer c.made_in.ensures in
     let n = before 8 9 s mid t [] b made (omega arith) is refl m in
-    let e = named s u c.in_ok-res.res.area r a c.finish.result er (ends s 8 (omega arith) t u c.in_ok-res.res.area a made c.finish.result (subst (λ x. Making 8 s t x made) same n) c.finish.ensures.answer c.finish.ensures.leaves c.finish.ensures.blank) in
+    let e = named s u c.in_ok-res.res.area r a c.finish.result er (ends s 8 (omega arith) t u c.in_ok-res.res.area a made c.finish.result (subst (λ x. Making 8 s t x made) same n) c.finish.ensures.answer c.finish.ensures.leaves c.finish.ensures.blank c.finish.ensures.long) in
     let w = tested s u r a c.finish.result _ (two_placed r p er.1 ep.1) e in
     record {
       answer = w.answers;
       leaves = w.leaves;
-      lent = left_lent s u r _ _ w c.args.self.now.at_rest (λ _ _. er.1);
+      blank = w.blank;
+      lent = λ b. left_lent s u r _ _ w b (λ _ _. er.1);
       algebra = λ f h _ hp. outcome K (state s) (state u) f r _ _ a c.finish.result e.answers e.leaves h ((theory K g.met.K.Ring.ring g.met.K.Ring.values s).negatives (f p) ((state s).places p) (h p hp));
     }

@@ -2,16 +2,15 @@ use Rattle.std.proofs.Common.{length, ap}
 use Rattle.formats.specs.Drafts.{variables}
 use Rattle.areas.specs.Areas.{contents}
 use Rattle.sheets.proofs.States.{seen-fresh}
+use Rattle.sheets.specs.Desks.{Blank}
 use Rattle.sheets.specs.declared.desk.Desk.{Desk}
 use Rattle.sheets.proofs.LentRows.{lent_opened}
 use Rattle.sheets.proofs.sheet.Sheet.open.Goals as goal
-
-pub invariant_of-result : goal.invariant_of-result
-invariant_of-result g c = record { at_rest = λ a low high. ap (λ d. d.tables a) c.open-areas.ensures.holds }
 
 pub returns : goal.returns
 returns g c =
     let is = c.open-areas.ensures.holds in
     let d : Desk _ _ = record { areas = c.open-areas.result; format = c.args.format } in
     let e = seen-fresh (contents c.open-areas.result) (length c.args.rows.now) (variables c.args.format) is in
-    record { state = e; lent = lent_opened d (λ a low high. ap (λ d. d.tables a) is) (length c.args.rows.now) (ap (λ d. d.lent) is) e }
+    let rest : Blank d = λ a low high. ap (λ d. d.tables a) is in
+    record { state = e; blank = rest; lent = lent_opened d rest (length c.args.rows.now) (ap (λ d. d.lent) is) e }

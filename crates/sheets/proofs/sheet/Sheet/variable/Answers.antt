@@ -25,12 +25,13 @@ returns g c =
     let a = variable_rows K (state s) (unit (state s).vars v) in
     let one = limit (state s) (Ok (row c.in_ok-key.key c.one.result ∷ [])) in
     let same : a ≡ one = ap (variable_rows K (state s)) (sym c.unit.ensures ∙ c.in_ok-key.was) ∙ ap (λ x. limit (state s) (Ok (row c.in_ok-key.key x ∷ []))) (sym c.one.ensures) in
-    let e = subst (λ x. Ended s u r x c.finish.result) (sym same) (named s u R r one c.finish.result er (ends s 8 (omega arith) t u R one c.single-made.result c.finish.result c.single-made.ensures c.finish.ensures.answer c.finish.ensures.leaves c.finish.ensures.blank)) in
+    let e = subst (λ x. Ended s u r x c.finish.result) (sym same) (named s u R r one c.finish.result er (ends s 8 (omega arith) t u R one c.single-made.result c.finish.result c.single-made.ensures c.finish.ensures.answer c.finish.ensures.leaves c.finish.ensures.blank c.finish.ensures.long)) in
     let w = tested s u r a c.finish.result _ (lt-ltb r 8 er.1) e in
     record {
       answer = w.answers;
       leaves = w.leaves;
       told = w.answers ∙ ap answered (sym (variable_is K s r (unit (state s).vars c.args.variable)));
-      lent = left_lent s u r _ _ w c.args.self.now.at_rest (λ _ _. er.1) ∙ ap (kept_rows K (lent_of s) r) (sym (variable_is K s r (unit (state s).vars c.args.variable)));
+      blank = w.blank;
+      lent = λ b. left_lent s u r _ _ w b (λ _ _. er.1) ∙ ap (kept_rows K (lent_of s) r) (sym (variable_is K s r (unit (state s).vars c.args.variable)));
       algebra = λ f h _ hv. outcome K (state s) (state u) f r _ _ a c.finish.result e.answers e.leaves h (variable_gives K g.met.K.Ring.ring (state s) g.met.K.Ring.values v (sound s.format) hv);
     }
