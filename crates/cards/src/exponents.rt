@@ -1,17 +1,18 @@
 // Exponents, joined by commas.
+ghost use Rattle.std.specs.Prelude.{◌≤◌, length};
 ghost use Rattle.texts.specs.Decks.{exponents};
 
 use crate::sink::Sink;
 
 pub(crate) fn put_exponents<S: Sink>(sink: &mut S, list: &[u16])
-    ensures { S.puts sink.old (exponents list.now) sink.new }
+    ensures puts { S.puts sink.old (exponents list.now) sink.new }
+    ensures few { length list.now ≤ 8 → length (exponents list.now) ≤ 168 }
 {
     let [first, rest @ ..] = list else {
         return;
     };
-    sink.put_number(*first);
+    sink.put_decimal(u64::from(*first));
     for exponent in rest {
-        sink.put(b",");
-        sink.put_number(*exponent);
+        sink.put_next(u64::from(*exponent));
     }
 }

@@ -86,6 +86,7 @@ pub fn read<K: Ring>(
     text: &[u8],
 ) -> Result<usize, ReadFault>
     ensures answer { result ≡ read_answer K.kind (state sheet.old) place text.now }
+    ensures blank { Blank sheet.old.desk → Blank sheet.new.desk }
     ensures leaves { state sheet.new ≡ read_leaves K.kind (state sheet.old) place text.now }
     ensures algebra { Reads K.kind (state sheet.old) (state sheet.new) place text.now result }
 {

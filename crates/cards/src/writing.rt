@@ -1,5 +1,5 @@
 // Writing a place.
-ghost use Rattle.std.specs.Prelude.{◌≡◌, length};
+ghost use Rattle.std.specs.Prelude.{◌≡◌, ◌+◌, ◌*◌, ◌≤◌, length, IfOk};
 ghost use Rattle.sheets.specs.Sheets.{state};
 ghost use Rattle.cards.specs.Written.{write_answer, write_leaves};
 
@@ -17,6 +17,7 @@ pub fn write<K: Ring>(
     output: &mut [u8],
 ) -> Result<usize, Refusal>
     ensures answer { result ≡ write_answer K.kind (state sheet.now) place (length output.old) }
+    ensures few { IfOk result (λ n. n ≤ 44 + 213 * length ((state sheet.now).places place)) }
     ensures leaves { output.new ≡ write_leaves K.kind (state sheet.now) place output.old }
 {
     let rows = sheet.rows(place)?;

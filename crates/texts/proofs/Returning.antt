@@ -72,10 +72,10 @@ module _ {S V : Type 0} (K : Kind V) (vs : List Variable) (enter : Entering S V)
     abbrev b : ℤ
     b = K.second v
 
-    one_figure : One K writing v value → Figured v i rest
+    one_figure : One K writing v (v, value) → Figured v i rest
     one_figure c =
-        let l = ap length (figures-one K writing v value c) in
-        let room = figures_length K writing v value in
+        let l = ap length (figures-one K writing v (v, value) c) in
+        let room = figures_length K writing v (v, value) in
         let shift : 0 + length (signed_decimal a) ≡ length (figures K v) = omega arith in
         record {
           last = a;
@@ -85,17 +85,17 @@ module _ {S V : Type 0} (K : Kind V) (vs : List Variable) (enter : Entering S V)
           comma = None;
           begins = i;
           reads =
-              ap (λ w. reading K vs enter fresh none st i (w ++ rest)) (figures-one K writing v value c)
+              ap (λ w. reading K vs enter fresh none st i (w ++ rest)) (figures-one K writing v (v, value) c)
               ∙ number_read K vs enter none st a 18 0 false None i rest (omega arith) (omega arith) c.2 (omega arith)
               ∙ (λ j. reading K vs enter (on (shift j) (under_way (written a i)) false None) none st (i + sym l j) rest);
           gives = cond-true (eqb K.count 1) _ _ (eq-eqb K.count 1 c.0) ∙ ap (coefficient K i) (ap (K.make a) (sym c.1) ∙ writing.again v ∙ value);
         }
 
-    two_figures : Two K writing v value → Figured v i rest
+    two_figures : Two K writing v (v, value) → Figured v i rest
     two_figures c =
         let m = length (signed_decimal a) in
-        let l = ap length (figures_two K writing v value c) ∙ length-append (signed_decimal a) (44 ∷ signed_decimal b) in
-        let room = figures_length K writing v value in
+        let l = ap length (figures_two K writing v (v, value) c) ∙ length-append (signed_decimal a) (44 ∷ signed_decimal b) in
+        let room = figures_length K writing v (v, value) in
         let columns : 0 + m + 1 + length (signed_decimal b) ≡ length (figures K v) = omega arith in
         let bytes : suc (i + m) + length (signed_decimal b) ≡ i + length (figures K v) = omega arith in
         record {
@@ -106,7 +106,7 @@ module _ {S V : Type 0} (K : Kind V) (vs : List Variable) (enter : Entering S V)
           comma = Some (i + m);
           begins = i;
           reads =
-              ap (λ w. reading K vs enter fresh none st i (w ++ rest)) (figures_two K writing v value c)
+              ap (λ w. reading K vs enter fresh none st i (w ++ rest)) (figures_two K writing v (v, value) c)
               ∙ ap (reading K vs enter fresh none st i) (append_assoc (signed_decimal a) (44 ∷ signed_decimal b) rest)
               ∙ number_read K vs enter none st a 16 0 false None i (44 ∷ signed_decimal b ++ rest) (omega arith) (omega arith) c.1 (omega arith)
               ∙ comma-read K vs enter none st a i (0 + m) false None (i + m) (signed_decimal b ++ rest) (omega arith)
@@ -117,7 +117,7 @@ module _ {S V : Type 0} (K : Kind V) (vs : List Variable) (enter : Entering S V)
         }
 
     figures-read : Figured v i rest
-    figures-read = ⊎_elim one_figure two_figures (short_figures K writing v value)
+    figures-read = ⊎_elim one_figure two_figures (short_figures K writing v (v, value))
 
   -- ---- exponents
   power-taken : (v : V) (b : ℕ) (es : List ℕ) (e : ℕ) (todo : List ℕ) (at : ℕ) → length es < length vs → within (drop (length es) vs) (e ∷ todo) ≡ true → taken K vs (powers v b es) (number (pos e) at) ≡ Ok (gathered vs v b (es ++ e ∷ []))
@@ -172,7 +172,7 @@ module _ {S V : Type 0} (K : Kind V) (vs : List Variable) (enter : Entering S V)
         let tail = exponents es ++ 10 ∷ rest in
         let f = figures-read writing v value i (32 ∷ tail) in
         let b = f.begins in
-        let short = figures_length K writing v value in
+        let short = figures_length K writing v (v, value) in
         let few = exponents_length vs es sound lu wu in
         let size = length-append (figures K v) (32 ∷ (exponents es ++ 10 ∷ [])) in
         let inner = length-append (exponents es) (10 ∷ []) in

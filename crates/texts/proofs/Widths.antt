@@ -1,21 +1,28 @@
 -- How long what is written on a card is. Assumes nothing.
 --     Short k z            the number z has at most k digits
---     short_figures        the figures of a value are short, by its kind
+--     short_figures        the figures of a content are short, by its kind
+--     figures_length       they take at most 35 bytes
 --     exponents_length     the exponents of a format take at most 33 bytes
-use Rattle.std.proofs.Common.{◌≡◌, ℕ, zero, suc, ◌+◌, ◌-◌, ◌*◌, ◌/◌, ◌^◌, ◌<◌, ◌≤◌, Bool, true, false, not, ◌&&◌, T, eqb, ltb, leb, ◌⊎◌, List, [], ◌∷◌, ◌++◌, length, ℤ, pos, negsuc, neg_ℤ, ◌≤ℤ◌, is_ok, decimal, sym, refl, ap, ◌∙◌, inl, inr, ⊎_elim, pow-suc, arith, length-append}
+--     numbers_length       eight numbers of 64 bits, or fewer, take at most 168
+--     card_length          a card takes at most 213
+--     ending_length        the card that ends a deck takes at most 44
+--     deck_length          a deck takes at most those and 213 for each row
+use Rattle.std.proofs.Common.{◌≡◌, ℕ, zero, suc, ◌+◌, ◌-◌, ◌*◌, ◌/◌, ◌^◌, ◌<◌, ◌≤◌, Bool, true, false, not, ◌&&◌, T, eqb, ltb, leb, ◌⊎◌, List, [], ◌∷◌, ◌++◌, length, get_or, ℤ, pos, negsuc, neg_ℤ, ◌≤ℤ◌, is_ok, decimal, sym, refl, ap, ◌∙◌, inl, inr, ⊎_elim, pow-suc, arith, length-append}
 use native.Mathlib.Nat.{pow-le-pow_right}
 use lib.Signed.{le_z}
 use Rattle.std.specs.Fmt.{signed_decimal}
 use Rattle.std.proofs.lemmas.Nat.{pow-add, pow_pos}
 use Rattle.std.proofs.lemmas.Fmt.{length-decimal-le}
 use Rattle.std.proofs.lemmas.Bool.{ltb-true, leb-true, eq-eqb, and_parts, cond-true, cond-false, false≢true}
-use Rattle.rings.specs.Kinds.{Kind, IsValue, FigureLaws, Within}
+use Rattle.rings.specs.Kinds.{Kind, Fits, ValueLaws, FigureLaws, Within}
 use Rattle.formats.specs.Drafts.{Sound}
-use Rattle.formats.specs.Keys.{within}
+use Rattle.formats.specs.Keys.{unpack, within}
 use Rattle.formats.specs.Variables.{total, lawful, capital, wide, used}
 use Rattle.formats.specs.declared.variable.Variable.{Variable}
 use Rattle.formats.proofs.Keys.{width_at}
-use Rattle.texts.specs.Decks.{exponents, figures}
+use Rattle.rows.specs.declared.Row.{Row}
+use Rattle.algebra.proofs.Packing.{length_unpack, within-unpack}
+use Rattle.texts.specs.Decks.{exponents, figures, card, ending, deck}
 
 -- ---- numbers
 abbrev pub Short : ℕ → ℤ → Type 0
@@ -67,7 +74,7 @@ signed_length k (pos n) p h l = omega (arith, digits_length k n p h l)
 signed_length k (negsuc n) p h l = omega (arith, digits_length k (suc n) p h l)
 
 -- ---- figures
-module _ {V : Type 0} (K : Kind V) (writing : FigureLaws K) (v : V) (value : IsValue K v) where
+module _ {V : Type 0} (K : Kind V) (writing : FigureLaws K) (v : V) (fits : Fits K (K.meaning v)) where
   abbrev pub One : Type 0
   One = (K.count ≡ 1) × (K.second v ≡ pos 0) × Short 18 (K.first v)
 
@@ -79,7 +86,7 @@ module _ {V : Type 0} (K : Kind V) (writing : FigureLaws K) (v : V) (value : IsV
       let a = K.first v in
       let b = K.second v in
       let r = K.ranges in
-      let all : Within r a b ≡ true = sym (writing.within a b) ∙ ap is_ok (writing.again v ∙ value) in
+      let all : Within r a b ≡ true = sym (writing.within a b) ∙ ap is_ok (writing.again v ∙ fits.1) in
       let p = and_parts (le_z r.first_low a && le_z a r.first_high) (le_z r.second_low b && le_z b r.second_high) all in
       let first = and_parts (le_z r.first_low a) (le_z a r.first_high) p.0 in
       let second = and_parts (le_z r.second_low b) (le_z b r.second_high) p.1 in
@@ -139,3 +146,29 @@ spread_length (v ∷ vs) (e ∷ es) l t s w =
 pub exponents_length : (vs : List Variable) (es : List ℕ) → Sound vs → length es ≡ length vs → within vs es ≡ true → length (exponents es) ≤ 33
 exponents_length vs [] s l w = omega arith
 exponents_length vs (e ∷ es) s l w = let r = spread_length vs (e ∷ es) s.ok s.narrow l w in let c = commas_length e es in let f = s.few in let n = s.narrow in omega arith
+
+spread_numbers : (es : List ℕ) → ((k : ℕ) → get_or es k 0 < 2 ^ 64) → spread es ≤ 21 * length es
+spread_numbers [] h = omega arith
+spread_numbers (e ∷ es) h = let n = h 0 in let one = length-decimal-le 20 e (omega arith) (omega arith) n in let rest = spread_numbers es (λ k. h (suc k)) in omega arith
+
+pub numbers_length : (es : List ℕ) → ((k : ℕ) → get_or es k 0 < 2 ^ 64) → length es ≤ 8 → length (exponents es) ≤ 168
+numbers_length [] h l = omega arith
+numbers_length (e ∷ es) h l = omega (arith, commas_length e es, spread_numbers (e ∷ es) h)
+
+-- ---- cards
+module _ {V : Type 0} (K : Kind V) (values : ValueLaws K) (writing : FigureLaws K) where
+  pub ending_length : length (ending K) ≤ 44
+  ending_length = omega (arith, figures_length K writing K.zero_value (values.contents K.zero_value), length-append (figures K K.zero_value) (10 ∷ []))
+
+  module _ (vs : List Variable) (sound : Sound vs) where
+    pub card_length : (x : Row V) → length (card K vs x) ≤ 213
+    card_length x =
+        let v = x.coefficient in
+        let es = unpack vs x.key in
+        let a = length-append (figures K v) (32 ∷ (exponents es ++ 10 ∷ [])) in
+        let b = length-append (exponents es) (10 ∷ []) in
+        omega (arith, figures_length K writing v (values.contents v), exponents_length vs es sound (length_unpack vs x.key) (within-unpack vs x.key))
+
+    pub deck_length : (xs : List (Row V)) → length (deck K vs xs) ≤ 44 + 213 * length xs
+    deck_length [] = omega (arith, ending_length)
+    deck_length (x ∷ xs) = let a = length-append (card K vs x) (deck K vs xs) in let c = card_length x in let r = deck_length xs in omega arith
