@@ -69,7 +69,7 @@ module _ {V X : Type 0} (K : Kind V) (call : X → Call) (s : State V) (calls : 
   abbrev pub Going : Over V → ℕ → State V → List (Told V) → List ℕ → Type 0
   Going over i t told out = Ran K over s (map call (take i calls)) old t (map answer_of (take i told)) out
 
-  going_more : (over : Over V) (i : ℕ) (t u : State V) (told : List (Told V)) (a : Told V) (out new : List ℕ) (x : X) → i < length calls → i < length told → x ≡ get_or calls i x → Going over i t told out → u ≡ after K over t (call x) → answer_of a ≡ answer K over t (call x) → new ≡ output_after K t (call x) out → Going over (i + 1) u (set told i a) new
+  pub going_more : (over : Over V) (i : ℕ) (t u : State V) (told : List (Told V)) (a : Told V) (out new : List ℕ) (x : X) → i < length calls → i < length told → x ≡ get_or calls i x → Going over i t told out → u ≡ after K over t (call x) → answer_of a ≡ answer K over t (call x) → new ≡ output_after K t (call x) out → Going over (i + 1) u (set told i a) new
   going_more over i t u told a out new x lt lt' is before leaves tells wrote =
       let cs : map call (take i calls) ++ call x ∷ [] ≡ map call (take (i + 1) calls) = sym (ap (map call) (take_more calls i x lt ∙ ap (λ y. take i calls ++ y ∷ []) (sym is)) ∙ map_push call (take i calls) x) in
       let as' : map answer_of (take i told) ++ answer_of a ∷ [] ≡ map answer_of (take (i + 1) (set told i a)) = sym (ap (map answer_of) (take_more_set told i a lt') ∙ map_push answer_of (take i told) a) in

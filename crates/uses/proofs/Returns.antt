@@ -26,7 +26,7 @@ abbrev pub told_of : {V : Type 0} → Result (Unit {0}) Refusal → Result (Repl
 told_of (Ok x) = Ok Done
 told_of (Err e) = Err (record { refusal = e; byte = None })
 
-changed : {V : Type 0} (a : Result (List (Row V)) Refusal) → answer_of {V = V} (told_of (answered a)) ≡ conduct.changing a
+pub changed : {V : Type 0} (a : Result (List (Row V)) Refusal) → answer_of {V = V} (told_of (answered a)) ≡ conduct.changing a
 changed (Ok xs) = refl
 changed (Err e) = refl
 

@@ -1,4 +1,8 @@
 // A call on a sheet, and what it answers.
+ghost use Rattle.std.specs.Prelude.{◌≡◌, ℕ};
+ghost use Rattle.uses.specs.Performing.{call_of};
+
+use crate::division::NoDivision;
 use cards::ReadFault;
 use rows::Row;
 
@@ -23,6 +27,32 @@ pub enum Call<'a, D> {
     Write(usize),
     Equal(usize, usize),
     Leading(usize),
+}
+
+impl<'a> Call<'a, NoDivision> {
+    // The same call, for a list whose divisions carry a leave D.
+    pub fn among<D>(self) -> Call<'a, D>
+        ensures { (n : ℕ) → call_of n result ≡ call_of n self.entry }
+    {
+        match self {
+            Call::Read(r, text) => Call::Read(r, text),
+            Call::Constant(r, a, b) => Call::Constant(r, a, b),
+            Call::Variable(r, v) => Call::Variable(r, v),
+            Call::Copied(r, p) => Call::Copied(r, p),
+            Call::Negate(r, p) => Call::Negate(r, p),
+            Call::Add(r, p, q) => Call::Add(r, p, q),
+            Call::Subtract(r, p, q) => Call::Subtract(r, p, q),
+            Call::Multiply(r, p, q) => Call::Multiply(r, p, q),
+            Call::Divide(_, _, _, none) => match none {},
+            Call::Differentiate(r, p, v) => Call::Differentiate(r, p, v),
+            Call::Substitute(r, p, q, v) => Call::Substitute(r, p, q, v),
+            Call::Truncate(r, p, k, n) => Call::Truncate(r, p, k, n),
+            Call::MultiplyTruncate(r, p, q, k, n) => Call::MultiplyTruncate(r, p, q, k, n),
+            Call::Write(p) => Call::Write(p),
+            Call::Equal(p, q) => Call::Equal(p, q),
+            Call::Leading(p) => Call::Leading(p),
+        }
+    }
 }
 
 // What an accepted call tells.
