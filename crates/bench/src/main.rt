@@ -13,8 +13,7 @@ use residues::Residue;
 use rings::Ring;
 use rows::Row;
 use sheets::Sheet;
-use std::alloc::AllocError;
-use std::env;
+use std::{env, io};
 use uses::Call;
 
 // Rows for areas of 4096.
@@ -51,7 +50,7 @@ fn square(report: &Report<'_>, sheet: &mut Sheet<'_, Residue>) -> anyhow::Result
 }
 
 // Blank rows to lend to a sheet.
-fn blank_rows<K: Ring>(rt: &HostRuntime) -> Result<Vec<Row<K>>, AllocError> {
+fn blank_rows<K: Ring>(rt: &HostRuntime) -> io::Result<Vec<Row<K>>> {
     Ok(vec![in rt.alloc(); Row::blank(); LENT]?)
 }
 

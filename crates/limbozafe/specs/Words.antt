@@ -3,8 +3,10 @@
 --     words bs                  the words of the line bs, in order: the parts between blanks that are not empty
 --     read_first f ws           what f reads in the first of the words ws, which has to be there
 --     read_first_if_any f ws    the same, if it is there
+--     line_words name others    the words of a line: its first, the name, and the others, or none where there is no first
 --     AsksForCards ws           the words ws are a `read` without a file name, right or wrong
 use Rattle.std.specs.Prelude.{◌≡◌, ℕ, ◌<◌, Bool, ◌||◌, List, [], ◌∷◌, length, nat_eq, nat_lt, codes, Result, Ok, Err, Option, Some, None}
+use Rattle.std.specs.Borrow.{Bor}
 use Rattle.std.specs.List.{filter, slice_split}
 use Rattle.limbozafe.specs.declared.fault.Fault.{Fault}
 use Rattle.limbozafe.specs.declared.fault.Fault.TheVariants.{Missing}
@@ -27,6 +29,10 @@ there (Err e) = Err e
 abbrev pub read_first_if_any : {T : Type 0} → (List ℕ → Result T Fault) → List (List ℕ) → Result (Option T) Fault
 read_first_if_any f [] = Ok None
 read_first_if_any f (w ∷ ws) = there (f w)
+
+abbrev pub line_words : Option (Bor (List ℕ)) → List (List ℕ) → List (List ℕ)
+line_words None others = []
+line_words (Some name) others = name.now ∷ others
 
 abbrev pub AsksForCards : List (List ℕ) → Type 0
 AsksForCards ws = (others : List (List ℕ)) × (ws ≡ codes "read" ∷ others) × (length others < 2)

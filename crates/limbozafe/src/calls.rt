@@ -1,4 +1,12 @@
 // Requests, carried out on a sheet.
+ghost use Rattle.std.specs.Prelude.{◌≡◌, true, List, [], ◌∷◌, length};
+ghost use Rattle.formats.specs.Drafts.{Sound};
+ghost use Rattle.formats.specs.declared.variable.Variable.{Variable as VariableOf};
+ghost use Rattle.arithmetic.specs.Dividing.{Over};
+ghost use Rattle.sheets.specs.Sheets.{state};
+ghost use Rattle.uses.specs.Performing.{call_of};
+ghost use Rattle.uses.specs.Runs.{Onward};
+
 use crate::answers::Printed;
 use crate::command::{Plain, Request};
 use crate::console::Console;
@@ -7,24 +15,30 @@ use rings::Ring;
 use sheets::Sheet;
 use std::io;
 use std::io::Write;
-use uses::{Call, Divides, Reply, perform};
+use uses::{Answer, Call, Divides, Reply, perform};
 
 // The bytes of an output that is enough for any place: no card has more than 213, and the last one at most 44.
 const MOST_BYTES: u64 = 213 * 4096 + 44;
 
+// Performs a call that is no division, as one of a list that may divide if the kind does.
+fn perform_plain<K: Ring, D: Divides<K>>(
+    sheet: &mut Sheet<'_, K>,
+    call: Plain<'_>,
+    output: &mut [u8],
+) -> Answer<K>
+    ensures promise { (over : Over K) (vs : List VariableOf) → D.divides_by over → Sound vs → (D.may ≡ true → K.whole ≡ true) → Onward K.kind over vs D.may (state sheet.old) (call_of (length output.old) call.entry ∷ []) (state sheet.new) }
+{
+    perform(sheet, &call.among::<D>(), output)
+}
+
 impl<'a> Console<'a> {
-    // Performs a call that writes nothing, and prints its answer.
-    fn perform<K: Ring, D: Divides<K>>(
-        &self,
-        sheet: &mut Sheet<'_, K>,
-        call: &Call<'_, D>,
-    ) -> io::Result<()> {
-        let answer = perform(sheet, call, &mut []);
+    // Prints what a call answered that writes nothing.
+    fn tell<K: Ring>(&self, answer: Answer<K>) -> io::Result<()> {
         self.rt.println(Printed(answer))
     }
 
     // Writes a place, into an output of `room` bytes, or of enough for any place.
-    fn write<K: Ring>(
+    fn write<K: Ring, D: Divides<K>>(
         &self,
         sheet: &mut Sheet<'_, K>,
         place: usize,
@@ -33,8 +47,7 @@ impl<'a> Console<'a> {
         // no more than `MOST_BYTES`, so `as`: there is no `From` between the two types
         let room = room.unwrap_or(MOST_BYTES).min(MOST_BYTES) as usize;
         let mut output: Vec<u8> = vec![in self.rt.alloc(); 0; room]?;
-        let call: Plain = Call::Write(place);
-        let answer = perform(sheet, &call, output.as_mut_slice());
+        let answer = perform_plain::<K, D>(sheet, Call::Write(place), output.as_mut_slice());
         self.rt.println(Printed(answer))?;
         if let Ok(Reply::Bytes(count)) = answer {
             output.truncate(count);
@@ -57,17 +70,17 @@ impl<'a> Console<'a> {
             }
             Request::File(place, name) => match self.file_text(name) {
                 Ok(text) => {
-                    let call: Plain = Call::Read(place, text.as_slice());
-                    self.perform(sheet, &call)
+                    let call = Call::Read(place, text.as_slice());
+                    self.tell(perform_plain::<K, D>(sheet, call, &mut []))
                 }
                 Err(fault) => self.complain(number, fault),
             },
-            Request::Write(place, room) => self.write(sheet, place, room),
+            Request::Write(place, room) => self.write::<K, D>(sheet, place, room),
             Request::Divide(r, p, q) => match D::leave() {
-                Some(leave) => self.perform(sheet, &Call::Divide(r, p, q, leave)),
+                Some(leave) => self.tell(perform(sheet, &Call::Divide(r, p, q, leave), &mut [])),
                 None => self.complain(number, Fault::NoDivision),
             },
-            Request::Call(call) => self.perform(sheet, &call),
+            Request::Call(call) => self.tell(perform_plain::<K, D>(sheet, call, &mut [])),
         }
     }
 }

@@ -144,10 +144,10 @@ fn request_of<'a>(
 
 // The command of a line, if it has one.
 pub(crate) fn command_of(line: Line) -> Result<Option<Command>, Fault> {
-    let mut words = line.words;
-    let Some(name) = words.next() else {
+    let Some(name) = line.name else {
         return Ok(None);
     };
+    let mut words = line.words;
     let command = match name {
         [b'#', ..] => return Ok(None),
         b"kind" => Command::Kind(words.read()?),

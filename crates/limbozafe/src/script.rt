@@ -1,7 +1,8 @@
 // A script, line by line.
 ghost use Rattle.std.specs.Prelude.{◌≡◌, ◌<◌, ◌≤◌, ◌↔◌, ◌+◌, ◌-◌, ◌^◌, min, length, IfSome, IsSome, OnSome, IsTrue};
+ghost use Rattle.std.specs.Iterator.{YieldsFirstRef};
 ghost use Rattle.limbozafe.specs.Lines.{line, after_line, content, IsPoint, IsCutAtPoint, IsCutAfter};
-ghost use Rattle.limbozafe.specs.Words.{words as words_of, AsksForCards};
+ghost use Rattle.limbozafe.specs.Words.{words as words_of, line_words, AsksForCards};
 
 use crate::line_words::Words;
 
@@ -18,6 +19,9 @@ pub(crate) struct Script<'a> {
 pub(crate) struct Line<'a> {
     // counted from 1
     pub(crate) number: u64,
+    // its first word, if it has one
+    pub(crate) name: Option<&'a [u8]>,
+    // those after it
     pub(crate) words: Words<'a>,
     // the cards on the lines that follow, if it is a `read` without a file name
     pub(crate) cards: &'a [u8],
@@ -52,11 +56,11 @@ fn is_point(line: &[u8]) -> bool
     matches!(line, b"." | b".\n")
 }
 
-// Whether cards follow a line: it is a `read` without a file name, right or wrong.
-fn has_cards(mut words: Words) -> bool
-    ensures { IsTrue result ↔ AsksForCards (words_of words.entry.0.now) }
+// Whether cards follow a line of a first word, if it has one, and those after it: it is a `read` without a file name, right or wrong.
+fn has_cards(name: Option<&[u8]>, mut words: Words) -> bool
+    ensures { IsTrue result ↔ AsksForCards (line_words name.entry (words_of words.entry.0.now)) }
 {
-    match words.next() {
+    match name {
         Some(b"read") => words.nth(1).is_none(),
         _ => false,
     }
@@ -99,15 +103,21 @@ impl<'a> Script<'a> {
     pub(crate) fn next_line(&mut self) -> Option<Line<'a>>
         ensures variant { IsSome result ↔ (0 < length self.old.rest.now) }
         ensures number { IfSome result (λ l. l.number ≡ min (self.old.lines + 1) (2 ^ 64 - 1)) }
-        ensures words { IfSome result (λ l. l.words.0.now ≡ content (line self.old.rest.now)) }
-        ensures cards { IfSome result (λ l. IsCutAfter (words_of l.words.0.now) (after_line self.old.rest.now) l.cards.now self.new.rest.now) }
+        ensures words { IfSome result (λ l. YieldsFirstRef words_of (content (line self.old.rest.now)) l.name l.words.0.now) }
+        ensures cards { IfSome result (λ l. IsCutAfter (words_of (content (line self.old.rest.now))) (after_line self.old.rest.now) l.cards.now self.new.rest.now) }
         ensures onward { OnSome result (length self.new.rest.now < length self.old.rest.now) }
     {
-        let words = Words(without_end(self.take_line()?));
+        let mut words = Words(without_end(self.take_line()?));
+        let name = words.next();
         let number = self.lines;
-        let cards = if has_cards(words) { self.cards() } else { &[] };
+        let cards = if has_cards(name, words) {
+            self.cards()
+        } else {
+            &[]
+        };
         Some(Line {
             number,
+            name,
             words,
             cards,
         })
