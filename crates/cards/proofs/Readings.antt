@@ -25,7 +25,7 @@ module _ {V : Type 0} {G : Ghosts V} (K : Kind V) (ring : RingLaws K.ops) (value
   told : (b : Bool) (r : Result (Deck (Table V)) numbers.Fault) → read_of K (state s) text ≡ r → a ≡ cond b (counted r) (Err (record { refusal = Place; byte = None })) → t ≡ cond b (placing (state s) p r) (state s) → Reads K (state s) t p text a
   told true (Ok d) read is left =
       subst (λ x. Reads K (state s) t p text x) (sym is) (λ f holds.
-      let dealt = dealing K ring values writing (state s).vars (sound s.format).some (state s).room d.bytes text d.table read in
+      let dealt = dealing K ring values writing (state s).vars (sound s.top.format).some (state s).room d.bytes text d.table read in
       (dealt.0, dealt.1, outcome K (state s) t f p (meant K (state s).vars dealt.0) (λ _. ⊥) (Ok d.table) (Ok tt) refl left holds dealt.2))
   told true (Err f) read is left = refused _ is left
   told false r read is left = refused _ is left

@@ -2,7 +2,7 @@
 ghost use Rattle.std.specs.Prelude.{◌≡◌, [], Some, None};
 ghost use Rattle.sheets.specs.Desks as desks;
 ghost use Rattle.sheets.specs.Desks.{Blank};
-ghost use Rattle.sheets.specs.Sheets.{state};
+ghost use Rattle.sheets.specs.Sheets.{state, rows_lent};
 ghost use Rattle.sheets.specs.Running.{running};
 ghost use Rattle.cards.specs.Read.{deck_shown, read_of, read_answer, read_leaves, Reads};
 
@@ -47,6 +47,7 @@ fn read_deck<K: Ring>(desk: &mut Desk<'_, K>, text: &[u8]) -> Result<usize, Faul
     requires { running desk.old ≡ [] }
     ensures answer { deck_shown result (running desk.new) ≡ read_of K.kind (desks.state desk.old) text.now }
     ensures leaves { desks.state desk.new ≡ desks.state desk.old }
+    ensures long { desks.rows_lent desk.new ≡ desks.rows_lent desk.old }
 {
     let mut card = Card::new();
     let mut partial = Partial::None;
@@ -73,6 +74,7 @@ fn read_deck<K: Ring>(desk: &mut Desk<'_, K>, text: &[u8]) -> Result<usize, Faul
 fn give_up<K: Ring>(desk: &mut Desk<'_, K>, fault: Fault) -> ReadFault
     ensures answer { result ≡ record { refusal = fault.refusal; byte = Some fault.byte } }
     ensures leaves { desks.state desk.new ≡ desks.state desk.old }
+    ensures long { desks.rows_lent desk.new ≡ desks.rows_lent desk.old }
     ensures blank { Blank desk.new }
 {
     desk.abandon();
@@ -87,6 +89,7 @@ pub fn read<K: Ring>(
 ) -> Result<usize, ReadFault>
     ensures answer { result ≡ read_answer K.kind (state sheet.old) place text.now }
     ensures blank { Blank sheet.old.desk → Blank sheet.new.desk }
+    ensures long { rows_lent sheet.new ≡ rows_lent sheet.old }
     ensures leaves { state sheet.new ≡ read_leaves K.kind (state sheet.old) place text.now }
     ensures algebra { Reads K.kind (state sheet.old) (state sheet.new) place text.now result }
 {

@@ -2,7 +2,7 @@
 ghost use Rattle.std.specs.Prelude.{◌≡◌, ℕ};
 ghost use Rattle.algebra.specs.Tables.{Falling};
 ghost use Rattle.texts.specs.Reading.{Going};
-ghost use Rattle.sheets.specs.Desks.{state};
+ghost use Rattle.sheets.specs.Desks.{state, rows_lent};
 ghost use Rattle.sheets.specs.Running.{running};
 ghost use Rattle.cards.specs.Read.{Table, goes_on, numbered};
 
@@ -22,6 +22,7 @@ pub(crate) fn term<K: Ring>(
     ensures answer { (end : ℕ) (go : Going (Table K) K) → goes_on (state desk.old).vars result (running desk.new) end go ≡ numbered K.kind (state desk.old) (running desk.old) partial number end go }
     ensures falling { Falling (running desk.new) }
     ensures leaves { state desk.new ≡ state desk.old }
+    ensures long { rows_lent desk.new ≡ rows_lent desk.old }
 {
     let Some(number) = number else {
         return Ok(Some(partial));

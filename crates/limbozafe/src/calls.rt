@@ -3,7 +3,8 @@ ghost use Rattle.std.specs.Prelude.{◌≡◌, true, List, [], ◌∷◌, length
 ghost use Rattle.formats.specs.Drafts.{Sound};
 ghost use Rattle.formats.specs.declared.variable.Variable.{Variable as VariableOf};
 ghost use Rattle.arithmetic.specs.Dividing.{Over};
-ghost use Rattle.sheets.specs.Sheets.{state};
+ghost use Rattle.sheets.specs.Desks.{Blank};
+ghost use Rattle.sheets.specs.Sheets.{state, rows_lent};
 ghost use Rattle.uses.specs.Performing.{call_of};
 ghost use Rattle.uses.specs.Runs.{Onward};
 
@@ -26,6 +27,8 @@ fn perform_plain<K: Ring, D: Divides<K>>(
     call: Plain<'_>,
     output: &mut [u8],
 ) -> Answer<K>
+    ensures blank { Blank sheet.old.desk → Blank sheet.new.desk }
+    ensures long { rows_lent sheet.new ≡ rows_lent sheet.old }
     ensures promise { (over : Over K) (vs : List VariableOf) → D.divides_by over → Sound vs → (D.may ≡ true → K.whole ≡ true) → Onward K.kind over vs D.may (state sheet.old) (call_of (length output.old) call.entry ∷ []) (state sheet.new) }
 {
     perform(sheet, &call.among::<D>(), output)
@@ -43,7 +46,10 @@ impl<'a> Console<'a> {
         sheet: &mut Sheet<'_, K>,
         place: usize,
         room: Option<u64>,
-    ) -> io::Result<()> {
+    ) -> io::Result<()>
+        ensures blank { Blank sheet.old.desk → Blank sheet.new.desk }
+        ensures long { rows_lent sheet.new ≡ rows_lent sheet.old }
+    {
         // no more than `MOST_BYTES`, so `as`: there is no `From` between the two types
         let room = room.unwrap_or(MOST_BYTES).min(MOST_BYTES) as usize;
         let mut output: Vec<u8> = vec![in self.rt.alloc(); 0; room]?;
@@ -56,13 +62,16 @@ impl<'a> Console<'a> {
         Ok(())
     }
 
-    // Carries out the request of a line. Where it opened the sheet, the rows of an area are told.
+    // Carries out the request of a line, and leaves a sheet at rest that was. Where it opened the sheet, the rows of an area are told.
     pub(crate) fn carry_out<K: Ring, D: Divides<K>>(
         &mut self,
         sheet: &mut Sheet<'_, K>,
         number: u64,
         request: Request<'_>,
-    ) -> io::Result<()> {
+    ) -> io::Result<()>
+        ensures blank { Blank sheet.old.desk → Blank sheet.new.desk }
+        ensures long { rows_lent sheet.new ≡ rows_lent sheet.old }
+    {
         match request {
             Request::Open(_) => {
                 let room = sheet.room();

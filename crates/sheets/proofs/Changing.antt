@@ -33,7 +33,7 @@ use Rattle.areas.proofs.Prefixes.{prefixed, prefixed_none, prefixed_more}
 use Rattle.sheets.specs.Changes.{row_derived, before, changed, Gives, Changes}
 use Rattle.sheets.specs.Ends.{made_in, made_of, Making}
 use Rattle.sheets.specs.Working.{table, below, but, Kept}
-use Rattle.sheets.specs.declared.desk.Desk.{Desk}
+use Rattle.sheets.specs.declared.worktop.Worktop.{Worktop}
 use Rattle.sheets.proofs.States.{table-there}
 use Rattle.sheets.proofs.Products.{kept_same, kept_fewer, kept-stored, kept-after, made_by}
 
@@ -85,8 +85,8 @@ table-room s a = omega (arith, length-take (count s a) (drop (a * lent_room s) s
 pub pushed-fits : {V : Type 0} (c : Contents V) (a : ℕ) (x : Row V) → a < 12 → length (c.tables a) < c.room → pushed c a x ≡ Ok (c.tables a ++ x ∷ [])
 pushed-fits c a x h fits = cond-true _ _ _ (lt-ltb a 12 h) ∙ cond-false _ _ _ (le-ltb c.room (length (c.tables a ++ x ∷ [])) (let l = length_push (c.tables a) x in omega arith))
 
-module _ {V : Type 0} {G : Ghosts V} (post : Row V → Result (Option (Row V)) Refusal → Type 0) (a : ℕ) (xs : List (Row V)) (s : Desk V G) where
-  pub record Changing (t : Desk V G) (i : ℕ) : Type 0 where
+module _ {V : Type 0} {G : Ghosts V} (post : Row V → Result (Option (Row V)) Refusal → Type 0) (a : ℕ) (xs : List (Row V)) (s : Worktop V G) where
+  pub record Changing (t : Worktop V G) (i : ℕ) : Type 0 where
     pub kept : Kept (but a) s t
     pub few : length (table t a) ≤ i
     pub rest : (f : Row V → Result (Option (Row V)) Refusal) → Gives post f → prefixed (table t a) (changed f (drop i xs)) ≡ changed f xs
@@ -94,7 +94,7 @@ module _ {V : Type 0} {G : Ghosts V} (post : Row V → Result (Option (Row V)) R
   pub changing-none : table s a ≡ [] → Changing s 0
   changing-none e = record { kept = kept_same (but a) s; few = omega (arith, ap length e); rest = λ f h. ap (λ l. prefixed l (changed f xs)) e ∙ prefixed_none (changed f xs) }
 
-  module _ (t : Desk V G) (i : ℕ) (r : Changing t i) (more : i < length xs) (x : Row V) (is : x ≡ get_or xs i x) where
+  module _ (t : Worktop V G) (i : ℕ) (r : Changing t i) (more : i < length xs) (x : Row V) (is : x ≡ get_or xs i x) where
     next : (o : Result (Option (Row V)) Refusal) → post x o → (f : Row V → Result (Option (Row V)) Refusal) → Gives post f → prefixed (table t a) (before o (changed f (drop (i + 1) xs))) ≡ changed f xs
     next o p f h =
         ap (λ z. prefixed (table t a) (before z (changed f (drop (i + 1) xs)))) (h x o p)
@@ -111,7 +111,7 @@ module _ {V : Type 0} {G : Ghosts V} (post : Row V → Result (Option (Row V)) R
       pub changing-fits : pushed (contents t.areas) a y ≡ Ok (table t a ++ y ∷ [])
       changing-fits = pushed-fits (contents t.areas) a y area (omega (arith, r.few, r.kept.room))
 
-      pub changing-some : (u : Desk V G) → contents u.areas ≡ held (contents t.areas) a (pushed (contents t.areas) a y) → u.format ≡ t.format → Changing u (i + 1)
+      pub changing-some : (u : Worktop V G) → contents u.areas ≡ held (contents t.areas) a (pushed (contents t.areas) a y) → u.format ≡ t.format → Changing u (i + 1)
       changing-some u leaves format =
           let is_now : contents u.areas ≡ storing (contents t.areas) a (table t a ++ y ∷ []) = leaves ∙ ap (held (contents t.areas) a) changing-fits in
           let now : table u a ≡ table t a ++ y ∷ [] = ap (λ d. d.tables a) is_now ∙ table-there (contents t.areas) a (table t a ++ y ∷ []) area in
@@ -121,9 +121,9 @@ module _ {V : Type 0} {G : Ghosts V} (post : Row V → Result (Option (Row V)) R
             rest = λ f h. ap (λ l. prefixed l (changed f (drop (i + 1) xs))) now ∙ sym (prefixed_more (table t a) y (changed f (drop (i + 1) xs))) ∙ next (Ok (Some y)) p f h;
           }
 
-  pub changing_all : (t : Desk V G) (i : ℕ) → Changing t i → length xs ≤ i → Changes post xs (Ok (table t a))
+  pub changing_all : (t : Worktop V G) (i : ℕ) → Changing t i → length xs ≤ i → Changes post xs (Ok (table t a))
   changing_all t i r all = λ f h. ap Ok (sym (append-nil (table t a))) ∙ ap (prefixed (table t a)) (sym (at_drop_all (changed f) xs i all)) ∙ r.rest f h
 
 -- what a call made whose rows were made so
-pub changing_made : {V : Type 0} {G : Ghosts V} (post : Row V → Result (Option (Row V)) Refusal → Type 0) (a : ℕ) → 8 ≤ a → (xs : List (Row V)) (s t : Desk V G) (answer : Result (Unit {0}) Refusal) (made : Result ℕ Refusal) → Kept (but a) s t → Changes post xs (made_of (contents t.areas) (made_in a answer)) → made ≡ made_in a answer → (f : Row V → Result (Option (Row V)) Refusal) → Gives post f → Making 8 s t (changed f xs) made
+pub changing_made : {V : Type 0} {G : Ghosts V} (post : Row V → Result (Option (Row V)) Refusal → Type 0) (a : ℕ) → 8 ≤ a → (xs : List (Row V)) (s t : Worktop V G) (answer : Result (Unit {0}) Refusal) (made : Result ℕ Refusal) → Kept (but a) s t → Changes post xs (made_of (contents t.areas) (made_in a answer)) → made ≡ made_in a answer → (f : Row V → Result (Option (Row V)) Refusal) → Gives post f → Making 8 s t (changed f xs) made
 changing_made post a low xs s t answer made k makes is f h = made_by 8 s t (changed f xs) made (kept_fewer (but a) (below 8) s t (λ o l e. omega arith) k) (ap (made_of (contents t.areas)) is ∙ makes f h)

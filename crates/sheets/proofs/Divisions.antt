@@ -27,12 +27,12 @@ use Rattle.arithmetic.specs.Dividing.{Over, opposed, leading, then, divided, quo
 use Rattle.arithmetic.specs.Multiplying.{step}
 use Rattle.arithmetic.specs.Quotients.{Divided}
 use Rattle.sheets.specs.States.{State, kept as left_in}
-use Rattle.sheets.specs.Desks.{state}
+use Rattle.sheets.specs.Worktops.{state}
 use Rattle.sheets.specs.Calls.{row_leading}
 use Rattle.sheets.specs.Ends.{made_in, made_of, Making}
 use Rattle.sheets.specs.Promises.{Formulas, Holds, Divides}
 use Rattle.sheets.specs.Working.{highest, turned, table, below, but, Kept}
-use Rattle.sheets.specs.declared.desk.Desk.{Desk}
+use Rattle.sheets.specs.declared.worktop.Worktop.{Worktop}
 use Rattle.sheets.proofs.States.{table-there}
 use Rattle.sheets.proofs.Outcomes.{outcome}
 use Rattle.sheets.proofs.Products.{kept_same, kept-after, kept-stored, made_kept, made_by, turn_step}
@@ -53,18 +53,18 @@ module _ {V : Type 0} (c : Contents V) (x : Row V) where
   pub pushed-over : (answer : Result (Unit {0}) Refusal) → answer ≡ answered (pushed c 8 x) → (e : Refusal) → answer ≡ Err e → (c.room ≤ length (c.tables 8)) × (e ≡ Rows)
   pushed-over answer a r e = ⊎_elim (λ h. let f = sym e ∙ a ∙ ap answered h.1 in absurd (let z : ◌≡◌ {A = ℕ} 0 1 = cc in omega arith)) (λ h. let f = sym e ∙ a ∙ ap answered h.1 in (h.0, cc)) pushed_cases
 
-pub kept-pushed : {V : Type 0} {G : Ghosts V} (s t : Desk V G) (r : Result (List (Row V)) Refusal) → contents t.areas ≡ held (contents s.areas) 8 r → t.format ≡ s.format → Kept (but 8) s t
+pub kept-pushed : {V : Type 0} {G : Ghosts V} (s t : Worktop V G) (r : Result (List (Row V)) Refusal) → contents t.areas ≡ held (contents s.areas) 8 r → t.format ≡ s.format → Kept (but 8) s t
 kept-pushed s t (Ok xs) is format = kept-stored s t 8 xs is format
 kept-pushed s t (Err e) is format = record { others = λ o h. ap (λ c. c.tables o) is; lent = ap (λ c. c.lent) is; room = ap (λ c. c.room) is; format = format }
 
 -- ---- the first step
-module _ {V : Type 0} {G : Ghosts V} (s : Desk V G) where
-  pub record Begun (start : Desk V G) (p : ℕ) : Type 0 where
+module _ {V : Type 0} {G : Ghosts V} (s : Worktop V G) where
+  pub record Begun (start : Worktop V G) (p : ℕ) : Type 0 where
     pub kept : Kept (below 8) s start
     pub none : table start 8 ≡ []
     pub copied : table start 10 ≡ table s p
 
-  pub begun : (mid start : Desk V G) (p : ℕ) → p < 8 → contents mid.areas ≡ storing (contents s.areas) 8 [] → Kept (but 8) s mid → contents start.areas ≡ storing (contents mid.areas) 10 (table mid p) → Kept (but 10) mid start → Begun start p
+  pub begun : (mid start : Worktop V G) (p : ℕ) → p < 8 → contents mid.areas ≡ storing (contents s.areas) 8 [] → Kept (but 8) s mid → contents start.areas ≡ storing (contents mid.areas) 10 (table mid p) → Kept (but 10) mid start → Begun start p
   begun mid start p h cleared k copied l = record {
     kept = kept-after (but 8) (but 10) (below 8) s mid start (λ o m. ((λ e. omega arith), (λ e. omega arith))) k l;
     none = l.others 8 (λ e. omega arith) ∙ ap (λ c. c.tables 8) cleared ∙ table-there (contents s.areas) 8 [] (omega arith);
@@ -103,14 +103,14 @@ module _ {V : Type 0} (K : Kind V) (over : Over V) (vs : List Variable) (c : ℕ
       onward-row (suc m) e r = onward-more m ∙ ap (λ l. then l (goes m qs zs)) r
 
 -- ---- all steps
-module _ {V : Type 0} {G : Ghosts V} (K : Kind V) (over : Over V) (y : Row V) (ds : List (Row V)) (s : Desk V G) where
+module _ {V : Type 0} {G : Ghosts V} (K : Kind V) (over : Over V) (y : Row V) (ds : List (Row V)) (s : Worktop V G) where
   abbrev rest : ℕ → List (Row V) → List (Row V) → Result (List (Row V)) Refusal
   rest = divided K over (state s).vars (state s).room y ds
 
   abbrev pub all : Result (List (Row V)) Refusal
   all = rest (state s).room [] (table s 10)
 
-  pub record Division (t : Desk V G) (at : ℕ) : Type 0 where
+  pub record Division (t : Worktop V G) (at : ℕ) : Type 0 where
     pub low : 10 ≤ at
     pub high : at ≤ 11
     pub kept : Kept (below 8) s t
@@ -119,31 +119,31 @@ module _ {V : Type 0} {G : Ghosts V} (K : Kind V) (over : Over V) (y : Row V) (d
   pub division_none : table s 8 ≡ [] → Division s 10
   division_none e = record { low = omega arith; high = omega arith; kept = kept_same (below 8) s; whole = ap (λ qs. rest ((state s).room - length qs) qs (table s 10)) e ∙ ap (λ m. rest m [] (table s 10)) (omega arith) }
 
-  pub division_all : (t : Desk V G) (at : ℕ) → Division t at → row_leading (table t at) ≡ None → Making 8 s t all (Ok 8)
+  pub division_all : (t : Worktop V G) (at : ℕ) → Division t at → row_leading (table t at) ≡ None → Making 8 s t all (Ok 8)
   division_all t at r none = made_by 8 s t all (Ok 8) r.kept (sym (onward-none K over (state s).vars (state s).room y ds _ (table t 8) (table t at) none) ∙ r.whole)
 
   -- a step that wrote its row to the quotient, and then made the remainder that is left
-  pub record Taken (t u : Desk V G) (at : ℕ) (made : Result ℕ Refusal) : Type 0 where
+  pub record Taken (t u : Worktop V G) (at : ℕ) (made : Result ℕ Refusal) : Type 0 where
     pub kept : Kept (below 8) s u
     pub next : continued (made_of (contents u.areas) made) (λ zs. rest ((state s).room - length (table u 8)) (table u 8) zs) ≡ all
     pub falls : (contents u.areas).room - length (table u 8) < (contents t.areas).room - length (table t 8)
     pub area : (o : ℕ) → made ≡ Ok o → o ≡ 21 - at
 
-  module _ (t u : Desk V G) (at : ℕ) (made : Result ℕ Refusal) (d : Taken t u at made) where
+  module _ (t u : Worktop V G) (at : ℕ) (made : Result ℕ Refusal) (d : Taken t u at made) where
     pub division_refused : (e : Refusal) → made ≡ Err e → Making 8 s u all (Err e)
     division_refused e h = made_by 8 s u all (Err e) d.kept (ap (λ v. continued (made_of (contents u.areas) v) (λ zs. rest ((state s).room - length (table u 8)) (table u 8) zs)) (sym h) ∙ d.next)
 
     pub division_more : Division t at → (o : ℕ) → made ≡ Ok o → Division u o
     division_more r o h = record { low = omega (arith, d.area o h, r.high); high = omega (arith, d.area o h, r.low); kept = d.kept; whole = ap (λ v. continued (made_of (contents u.areas) v) (λ zs. rest ((state s).room - length (table u 8)) (table u 8) zs)) (sym h) ∙ d.next }
 
-  module _ (t : Desk V G) (at : ℕ) (r : Division t at) (x : Row V) (first : row_leading (table t at) ≡ Some x) where
+  module _ (t : Worktop V G) (at : ℕ) (r : Division t at) (x : Row V) (first : row_leading (table t at) ≡ Some x) where
     there : leading over (state t).vars x y ≡ leading over (state s).vars x y
     there = ap (λ f. leading over (variables f) x y) r.kept.format
 
     pub division_row : (e : Refusal) → leading over (state t).vars x y ≡ Err e → Making 8 s t all (Err e)
     division_row e l = made_by 8 s t all (Err e) r.kept (sym (onward-row K over (state s).vars (state s).room y ds (table t 8) (table t at) x first ((state s).room - length (table t 8)) e (sym there ∙ l)) ∙ r.whole)
 
-    module _ (z : Row V) (l : leading over (state t).vars x y ≡ Ok z) (mid : Desk V G) (answer : Result (Unit {0}) Refusal) (a : answer ≡ answered (pushed (contents t.areas) 8 z)) (is : contents mid.areas ≡ held (contents t.areas) 8 (pushed (contents t.areas) 8 z)) (format : mid.format ≡ t.format) where
+    module _ (z : Row V) (l : leading over (state t).vars x y ≡ Ok z) (mid : Worktop V G) (answer : Result (Unit {0}) Refusal) (a : answer ≡ answered (pushed (contents t.areas) 8 z)) (is : contents mid.areas ≡ held (contents t.areas) 8 (pushed (contents t.areas) 8 z)) (format : mid.format ≡ t.format) where
       k : Kept (but 8) t mid
       k = kept-pushed t mid (pushed (contents t.areas) 8 z) is format
 
@@ -157,7 +157,7 @@ module _ {V : Type 0} {G : Ghosts V} (K : Kind V) (over : Over V) (y : Row V) (d
           made_by 8 s mid all (Err e) before
           (ap Err full.1 ∙ sym (ap (λ m. rest m (table t 8) (table t at)) none ∙ onward_full K over (state s).vars (state s).room y ds (table t 8) (table t at) x first ∙ ap (λ w. then w (λ _. Err Rows)) (sym there ∙ l)) ∙ r.whole)
 
-      module _ (b : answer ≡ Ok tt) (q : ℕ) (inside : q < 8) (divisor : table s q ≡ y ∷ ds) (most : List ℕ) (high : most ≡ highest (state s).vars (replicate 8 0) (y ∷ ds)) (w : Row V) (opposite : w ≡ opposed K z) (u : Desk V G) (made : Result ℕ Refusal) (m : Making 10 mid u (turned K (state mid).vars (state mid).room most (table mid at) (table mid q) w) made) where
+      module _ (b : answer ≡ Ok tt) (q : ℕ) (inside : q < 8) (divisor : table s q ≡ y ∷ ds) (most : List ℕ) (high : most ≡ highest (state s).vars (replicate 8 0) (y ∷ ds)) (w : Row V) (opposite : w ≡ opposed K z) (u : Worktop V G) (made : Result ℕ Refusal) (m : Making 10 mid u (turned K (state mid).vars (state mid).room most (table mid at) (table mid q) w) made) where
         abbrev taken : Result (List (Row V)) Refusal
         taken = turned K (state mid).vars (state mid).room most (table mid at) (table mid q) w
 
@@ -196,7 +196,7 @@ module _ {V : Type 0} {G : Ghosts V} (K : Kind V) (over : Over V) (y : Row V) (d
             by o (Err e) h = absurd (let z : ◌≡◌ {A = ℕ} 0 1 = cc in omega arith)
 
 -- ---- the whole division, from where it began
-pub begun-quotient : {V : Type 0} {G : Ghosts V} (K : Kind V) (over : Over V) (y : Row V) (s start : Desk V G) (p q : ℕ) → q < 8 → row_leading (table s q) ≡ Some y → Begun s start p → all K over y (drop 1 (table start q)) start ≡ quotient K over (state s).vars (state s).room (table s p) (table s q)
+pub begun-quotient : {V : Type 0} {G : Ghosts V} (K : Kind V) (over : Over V) (y : Row V) (s start : Worktop V G) (p q : ℕ) → q < 8 → row_leading (table s q) ≡ Some y → Begun s start p → all K over y (drop 1 (table start q)) start ≡ quotient K over (state s).vars (state s).room (table s p) (table s q)
 begun-quotient K over y s start p q h first b =
     (λ i. divided K over (variables (b.kept.format i)) (b.kept.room i) y (drop 1 (b.kept.others q h i)) (b.kept.room i) [] (b.copied i))
     ∙ sym (quotient-some K over (state s).vars (state s).room (table s p) (table s q) y first)

@@ -15,7 +15,7 @@ use Rattle.algebra.proofs.Exponents.{degree-added}
 use Rattle.arithmetic.specs.Truncating.{chosen, low, near}
 use Rattle.sheets.specs.Ends.{made_in, made_of}
 use Rattle.sheets.specs.Working.{table}
-use Rattle.sheets.specs.declared.desk.Desk.{Desk}
+use Rattle.sheets.specs.declared.worktop.Worktop.{Worktop}
 use Rattle.sheets.proofs.Changing.{not_refused}
 
 abbrev pub low_with : {V : Type 0} → List Variable → ℕ → ℕ → ℕ → Row V → Bool
@@ -28,6 +28,6 @@ near-chosen vs k n d xs y e =
     λ i. chosen (λ x. each x i) xs
 
 -- where all of them were accepted, the area has them
-pub gathered : {V : Type 0} {G : Ghosts V} (t : Desk V G) (answer : Result (Unit {0}) Refusal) (xs : List (Row V)) → made_of (contents t.areas) (made_in 9 answer) ≡ Ok xs → table t 9 ≡ xs
+pub gathered : {V : Type 0} {G : Ghosts V} (t : Worktop V G) (answer : Result (Unit {0}) Refusal) (xs : List (Row V)) → made_of (contents t.areas) (made_in 9 answer) ≡ Ok xs → table t 9 ≡ xs
 gathered t (Ok x) xs h = cc
 gathered t (Err e) xs h = absurd (not_refused xs e h)

@@ -10,7 +10,7 @@
 --     stored-made, stored-none     a result that was made, in its place, and one that was refused
 --     passed                       a pass into a working area makes what it leaves there
 --     before                       another area was written before
---     pushed-one                   and so does a row pushed to an empty one
+--     pushed_alone, held_alone     a row pushed to an emptied area: what it answers, and what is left
 --     making_ended, making_kept    at the end of a call its answer is that of what was made, and so is the state
 use Rattle.std.proofs.Common.{◌≡◌, ℕ, ◌*◌, ◌<◌, ◌≤◌, cond, ◌&&◌, eqb, ltb, List, [], ◌∷◌, ◌++◌, length, drop, Ok, Err, Result, sym, refl, ap, ◌∙◌, ⊎_elim, arith}
 use Rattle.std.proofs.lemmas.List.{length-take}
@@ -23,14 +23,15 @@ use Rattle.rows.specs.Tables.{limited}
 use Rattle.rows.specs.declared.Row.{Row}
 use Rattle.areas.specs.Shares.{capacity}
 use Rattle.areas.specs.Areas.{Contents, contents, count, storing, fresh, rows_of, answered, pushed, kept as held}
+use Rattle.areas.proofs.Storing.{storing-again}
 use Rattle.areas.specs.declared.twelve.Areas.{Areas}
 use Rattle.sheets.specs.States.{placed, seen, opened, stored, kept}
-use Rattle.sheets.specs.Desks.{state}
+use Rattle.sheets.specs.Worktops.{state}
 use Rattle.sheets.specs.Ends.{made_in, ended, finished, made_of, Making}
-use Rattle.sheets.specs.declared.desk.Desk.{Desk}
+use Rattle.sheets.specs.declared.worktop.Worktop.{Worktop}
 
 -- the sheet s on other areas
-abbrev pub with_areas : {V : Type 0} {G : Ghosts V} → Desk V G → Areas V G → Desk V G
+abbrev pub with_areas : {V : Type 0} {G : Ghosts V} → Worktop V G → Areas V G → Worktop V G
 with_areas s a = record { areas = a; format = s.format }
 
 -- ---- tables
@@ -60,7 +61,7 @@ module _ {V : Type 0} (c : Contents V) (vs : List Variable) where
       (cases_eq p r) in
       λ i. record { room = c.room; places = λ p. place p i; vars = vs }
 
-pub few-rows : {V : Type 0} {G : Ghosts V} (s : Desk V G) (p : ℕ) → length ((state s).places p) ≤ (state s).room
+pub few-rows : {V : Type 0} {G : Ghosts V} (s : Worktop V G) (p : ℕ) → length ((state s).places p) ≤ (state s).room
 few-rows s p =
     let c = contents s.areas in
     let n = count s.areas p in
@@ -100,7 +101,7 @@ module _ {V : Type 0} (c c₈ c₉ c₁₀ c₁₁ : Contents V) (e₈ : c₈ �
       (cases_eq a 11)
 
 -- ---- the end of a call
-module _ {V : Type 0} {G : Ghosts V} (s t : Desk V G) (r : ℕ) (made : Result ℕ Refusal) where
+module _ {V : Type 0} {G : Ghosts V} (s t : Worktop V G) (r : ℕ) (made : Result ℕ Refusal) where
   pub stored-made : r < 8 → (a : ℕ) → made ≡ Ok a → contents t.areas ≡ storing (contents s.areas) r ((contents s.areas).tables a) → t.format ≡ s.format → state t ≡ finished (state s) (contents s.areas) r made
   stored-made h a e is format =
       (λ i. seen (is i) (variables (format i))) ∙ seen-place (contents s.areas) (variables s.format) r ((contents s.areas).tables a) h
@@ -116,7 +117,7 @@ module _ {V : Type 0} {G : Ghosts V} (s t : Desk V G) (r : ℕ) (made : Result �
 -- ---- what was made
 module _ {V : Type 0} {G : Ghosts V} where
   -- the area w of t holds the rows of a, if it is no refusal, and t is as s is in the areas below n
-  pub passed : (n w : ℕ) (s t : Desk V G) (a : Result (List (Row V)) Refusal) (answer : Result (Unit {0}) Refusal) (made : Result ℕ Refusal) → n ≤ w → w < 12 → contents t.areas ≡ storing (contents s.areas) w (rows_of a) → t.format ≡ s.format → answer ≡ answered a → made ≡ made_in w answer → Making n s t a made
+  pub passed : (n w : ℕ) (s t : Worktop V G) (a : Result (List (Row V)) Refusal) (answer : Result (Unit {0}) Refusal) (made : Result ℕ Refusal) → n ≤ w → w < 12 → contents t.areas ≡ storing (contents s.areas) w (rows_of a) → t.format ≡ s.format → answer ≡ answered a → made ≡ made_in w answer → Making n s t a made
   passed n w s t a answer made low high is format answers makes = record {
     result = ap (made_of (contents t.areas)) (makes ∙ ap (made_in w) answers) ∙ there a is;
     others = λ o l. ap (λ c. c.tables o) is ∙ table-other (contents s.areas) w (rows_of a) o (λ e. omega arith);
@@ -129,7 +130,7 @@ module _ {V : Type 0} {G : Ghosts V} where
       there (Ok xs) e = ap Ok (ap (λ c. c.tables w) e ∙ table-there (contents s.areas) w xs high)
       there (Err x) e = refl
 
-  module _ (n : ℕ) (places : 8 ≤ n) (s t : Desk V G) (a : Result (List (Row V)) Refusal) (made : Result ℕ Refusal) (m : Making n s t a made) where
+  module _ (n : ℕ) (places : 8 ≤ n) (s t : Worktop V G) (a : Result (List (Row V)) Refusal) (made : Result ℕ Refusal) (m : Making n s t a made) where
     pub making_state : state t ≡ state s
     making_state = ap (λ f. seen (contents t.areas) (variables f)) m.format ∙ seen_same (contents s.areas) (contents t.areas) (variables s.format) m.room (λ p l. m.others p (omega arith))
 
@@ -148,7 +149,7 @@ module _ {V : Type 0} {G : Ghosts V} where
         by (Err e) = refl
 
   -- and before it another area was written
-  pub before : (n b : ℕ) (s mid t : Desk V G) (xs : List (Row V)) (a : Result (List (Row V)) Refusal) (made : Result ℕ Refusal) → n ≤ b → contents mid.areas ≡ storing (contents s.areas) b xs → mid.format ≡ s.format → Making n mid t a made → Making n s t a made
+  pub before : (n b : ℕ) (s mid t : Worktop V G) (xs : List (Row V)) (a : Result (List (Row V)) Refusal) (made : Result ℕ Refusal) → n ≤ b → contents mid.areas ≡ storing (contents s.areas) b xs → mid.format ≡ s.format → Making n mid t a made → Making n s t a made
   before n b s mid t xs a made low is format m = record {
     result = m.result;
     others = λ o l. m.others o l ∙ ap (λ c. c.tables o) is ∙ table-other (contents s.areas) b xs o (λ e. omega arith);
@@ -157,31 +158,17 @@ module _ {V : Type 0} {G : Ghosts V} where
     format = m.format ∙ format;
   }
 
-  -- one row, pushed to the emptied area 8
-  pub pushed-one : (s : Desk V G) (mid : Areas V G) (t : Desk V G) (x : Row V) (answer : Result (Unit {0}) Refusal) (made : Result ℕ Refusal) → contents mid ≡ storing (contents s.areas) 8 [] → contents t.areas ≡ held (contents mid) 8 (pushed (contents mid) 8 x) → t.format ≡ s.format → answer ≡ answered (pushed (contents mid) 8 x) → made ≡ made_in 8 answer → Making 8 s t (limited (state s).room (Ok (x ∷ []))) made
-  pushed-one s mid t x answer made cleared is format answers makes =
-      let c = contents s.areas in
-      let one : pushed (contents mid) 8 x ≡ limited c.room (Ok (x ∷ [])) = ap (λ d. limited d.room (Ok (d.tables 8 ++ x ∷ []))) cleared in
-      record {
-        result = ap (made_of (contents t.areas)) (makes ∙ ap (made_in 8) (answers ∙ ap answered one)) ∙ there (limited c.room (Ok (x ∷ []))) (is ∙ (λ i. held (cleared i) 8 (one i)));
-        others = λ o l. ap (λ d. d.tables o) (is ∙ (λ i. held (cleared i) 8 (one i))) ∙ kept-other (limited c.room (Ok (x ∷ []))) o l;
-        lent = ap (λ d. d.lent) (is ∙ (λ i. held (cleared i) 8 (one i))) ∙ kept-lent (limited c.room (Ok (x ∷ [])));
-        room = ap (λ d. d.room) (is ∙ (λ i. held (cleared i) 8 (one i))) ∙ kept-room (limited c.room (Ok (x ∷ [])));
-        format = format;
-      }
+-- one row, pushed to an emptied area
+module _ {V : Type 0} (c mid : Contents V) (a : ℕ) (x : Row V) (h : a < 12) (is : mid ≡ storing c a []) where
+  abbrev alone : Result (List (Row V)) Refusal
+  alone = limited c.room (Ok (x ∷ []))
+
+  pub pushed_alone : pushed mid a x ≡ alone
+  pushed_alone = ap (λ d. pushed d a x) is ∙ cond-true _ _ _ (lt-ltb a 12 h) ∙ ap (λ ys. limited c.room (Ok (ys ++ x ∷ []))) (table-there c a [] h)
+
+  pub held_alone : held mid a (pushed mid a x) ≡ storing c a (rows_of alone)
+  held_alone = (λ i. held (is i) a (pushed_alone i)) ∙ by alone
     where
-      there : (a : Result (List (Row V)) Refusal) → contents t.areas ≡ held (storing (contents s.areas) 8 []) 8 a → made_of (contents t.areas) (made_in 8 (answered a)) ≡ a
-      there (Ok xs) e = ap Ok (ap (λ c. c.tables 8) e ∙ table-there (storing (contents s.areas) 8 []) 8 xs (omega arith))
-      there (Err x) e = refl
-
-      kept-other : (a : Result (List (Row V)) Refusal) (o : ℕ) → o < 8 → (held (storing (contents s.areas) 8 []) 8 a).tables o ≡ (contents s.areas).tables o
-      kept-other (Ok xs) o l = table-other (storing (contents s.areas) 8 []) 8 xs o (λ e. omega arith) ∙ table-other (contents s.areas) 8 [] o (λ e. omega arith)
-      kept-other (Err x) o l = table-other (contents s.areas) 8 [] o (λ e. omega arith)
-
-      kept-lent : (a : Result (List (Row V)) Refusal) → (held (storing (contents s.areas) 8 []) 8 a).lent ≡ (contents s.areas).lent
-      kept-lent (Ok xs) = refl
-      kept-lent (Err x) = refl
-
-      kept-room : (a : Result (List (Row V)) Refusal) → (held (storing (contents s.areas) 8 []) 8 a).room ≡ (contents s.areas).room
-      kept-room (Ok xs) = refl
-      kept-room (Err x) = refl
+      by : (r : Result (List (Row V)) Refusal) → held (storing c a []) a r ≡ storing c a (rows_of r)
+      by (Ok xs) = storing-again c a [] xs
+      by (Err e) = refl

@@ -25,17 +25,17 @@ use Rattle.areas.specs.Areas.{contents, storing, rows_of, answered, apart, pushe
 use Rattle.arithmetic.specs.Multiplying.{product}
 use Rattle.arithmetic.specs.Substituting.{raised, term_raised, substituted}
 use Rattle.arithmetic.proofs.Derived.{within_lower}
-use Rattle.sheets.specs.Desks.{state}
+use Rattle.sheets.specs.Worktops.{state}
 use Rattle.sheets.specs.Ends.{made_in, made_of, Making}
 use Rattle.sheets.specs.Working.{table, below, but, Kept}
-use Rattle.sheets.specs.declared.desk.Desk.{Desk}
+use Rattle.sheets.specs.declared.worktop.Worktop.{Worktop}
 use Rattle.sheets.proofs.States.{table-there}
 use Rattle.sheets.proofs.Outcomes.{apart_areas}
 use Rattle.sheets.proofs.Products.{kept_same, kept-after, kept_fewer, kept-stored, made_kept, made_by, making_after}
 use Rattle.sheets.proofs.Changing.{pushed-fits}
 
 -- ---- powers
-module _ {V : Type 0} {G : Ghosts V} (K : Kind V) (qs ts : List (Row V)) (s : Desk V G) where
+module _ {V : Type 0} {G : Ghosts V} (K : Kind V) (qs ts : List (Row V)) (s : Worktop V G) where
   abbrev power : ℕ → Result (List (Row V)) Refusal
   power = raised K (state s).vars (state s).room qs ts
 
@@ -44,14 +44,14 @@ module _ {V : Type 0} {G : Ghosts V} (K : Kind V) (qs ts : List (Row V)) (s : De
   lasting x j (suc k) h e =
       ⊎_elim (λ l. ap (λ r. continued r (λ us. product K (state s).vars (state s).room us qs)) (lasting x j k (omega arith) e)) (λ l. let z : suc k ≡ j = omega arith in ap power z ∙ e) (cases_lt j (suc k))
 
-  pub record Raising (t : Desk V G) (i : ℕ) : Type 0 where
+  pub record Raising (t : Worktop V G) (i : ℕ) : Type 0 where
     pub kept : Kept (below 9) s t
     pub now : power i ≡ Ok (table t 9)
 
   pub raising_none : table s 9 ≡ ts → Raising s 0
   raising_none e = record { kept = kept_same (below 9) s; now = ap Ok (sym e) }
 
-  module _ (q : ℕ) (inside : q < 9) (is : table s q ≡ qs) (t u : Desk V G) (i : ℕ) (r : Raising t i) (made : Result ℕ Refusal) (m : Making 10 t u (product K (state t).vars (state t).room (table t 9) (table t q)) made) where
+  module _ (q : ℕ) (inside : q < 9) (is : table s q ≡ qs) (t u : Worktop V G) (i : ℕ) (r : Raising t i) (made : Result ℕ Refusal) (m : Making 10 t u (product K (state t).vars (state t).room (table t 9) (table t q)) made) where
     next : power (suc i) ≡ made_of (contents u.areas) made
     next =
         let k = r.kept in
@@ -61,7 +61,7 @@ module _ {V : Type 0} {G : Ghosts V} (K : Kind V) (qs ts : List (Row V)) (s : De
     so_far : Kept (below 9) s u
     so_far = kept-after (below 9) (below 10) (below 9) s t u (λ o h. (h, omega arith)) r.kept (made_kept 10 t u _ made m)
 
-    pub raising_more : (at : ℕ) → made ≡ Ok at → (v : Desk V G) → contents v.areas ≡ storing (contents u.areas) 9 (table u at) → Kept (but 9) u v → Raising v (i + 1)
+    pub raising_more : (at : ℕ) → made ≡ Ok at → (v : Worktop V G) → contents v.areas ≡ storing (contents u.areas) 9 (table u at) → Kept (but 9) u v → Raising v (i + 1)
     raising_more at e v leaves k = record {
       kept = kept-after (below 9) (but 9) (below 9) s u v (λ o h. (h, λ z. omega arith)) so_far k;
       now = ap power (add-one i) ∙ next ∙ ap (made_of (contents u.areas)) e ∙ ap Ok (sym (ap (λ d. d.tables 9) leaves ∙ table-there (contents u.areas) 9 (table u at) (omega arith)));
@@ -70,15 +70,15 @@ module _ {V : Type 0} {G : Ghosts V} (K : Kind V) (qs ts : List (Row V)) (s : De
     pub raising_refused : (x : Refusal) → made ≡ Err x → (n : ℕ) → i < n → Making 9 s u (power n) (Err x)
     raising_refused x e n h = made_by 9 s u (power n) (Err x) so_far (sym (lasting x (suc i) n h (next ∙ ap (made_of (contents u.areas)) e)))
 
-  pub raising_all : (t : Desk V G) (i n : ℕ) → Raising t i → i ≡ n → Making 9 s t (power n) (Ok 9)
+  pub raising_all : (t : Worktop V G) (i n : ℕ) → Raising t i → i ≡ n → Making 9 s t (power n) (Ok 9)
   raising_all t i n r e = made_by 9 s t (power n) (Ok 9) r.kept (sym r.now ∙ ap power e)
 
 -- ---- one row
 pub without : (vs : List Variable) (v k : ℕ) → v < length vs → replaced vs k v 0 ≡ Ok (pack vs (placed v 0 (unpack vs k)))
 without vs v k h = cond-true _ _ _ (lt-ltb v (length vs) h) ∙ cond-true _ _ _ (within_lower vs v 0 (unpack vs k) (omega arith) (within-unpack vs k))
 
-module _ {V : Type 0} {G : Ghosts V} (s : Desk V G) where
-  pub begun : (mid t : Desk V G) (x : Row V) (answer : Result (Unit {0}) Refusal) → 0 < (contents s.areas).room → contents mid.areas ≡ storing (contents s.areas) 9 [] → Kept (but 9) s mid → contents t.areas ≡ held (contents mid.areas) 9 (pushed (contents mid.areas) 9 x) → t.format ≡ mid.format → answer ≡ answered (pushed (contents mid.areas) 9 x) → Making 9 s t (Ok (x ∷ [])) (made_in 9 answer)
+module _ {V : Type 0} {G : Ghosts V} (s : Worktop V G) where
+  pub begun : (mid t : Worktop V G) (x : Row V) (answer : Result (Unit {0}) Refusal) → 0 < (contents s.areas).room → contents mid.areas ≡ storing (contents s.areas) 9 [] → Kept (but 9) s mid → contents t.areas ≡ held (contents mid.areas) 9 (pushed (contents mid.areas) 9 x) → t.format ≡ mid.format → answer ≡ answered (pushed (contents mid.areas) 9 x) → Making 9 s t (Ok (x ∷ [])) (made_in 9 answer)
   begun mid t x answer room cleared k leaves format answers =
       let none : table mid 9 ≡ [] = ap (λ d. d.tables 9) cleared ∙ table-there (contents s.areas) 9 [] (omega arith) in
       let fits : pushed (contents mid.areas) 9 x ≡ Ok (x ∷ []) = pushed-fits (contents mid.areas) 9 x (omega arith) (omega (arith, ap length none, k.room)) ∙ ap (λ xs. Ok (xs ++ x ∷ [])) none in
@@ -87,16 +87,16 @@ module _ {V : Type 0} {G : Ghosts V} (s : Desk V G) where
       made_by 9 s t (Ok (x ∷ [])) (made_in 9 answer) (kept-after (but 9) (but 9) (below 9) s mid t (λ o h. ((λ e. omega arith), (λ e. omega arith))) k l)
       (ap (λ r. made_of (contents t.areas) (made_in 9 r)) (answers ∙ ap answered fits) ∙ ap Ok (ap (λ d. d.tables 9) now ∙ table-there (contents mid.areas) 9 (x ∷ []) (omega arith)))
 
-module _ {V : Type 0} {G : Ghosts V} (K : Kind V) (s : Desk V G) where
-  pub row-raised : (t u : Desk V G) (q : ℕ) → q < 9 → (xs : List (Row V)) (e n : ℕ) (answer : Result (Unit {0}) Refusal) → Making 9 s t (Ok xs) (Ok 9) → e ≡ n → Making 9 t u (raised K (state t).vars (state t).room (table t q) (table t 9) e) (made_in 9 answer) → Making 9 s u (raised K (state s).vars (state s).room (table s q) xs n) (made_in 9 answer)
+module _ {V : Type 0} {G : Ghosts V} (K : Kind V) (s : Worktop V G) where
+  pub row-raised : (t u : Worktop V G) (q : ℕ) → q < 9 → (xs : List (Row V)) (e n : ℕ) (answer : Result (Unit {0}) Refusal) → Making 9 s t (Ok xs) (Ok 9) → e ≡ n → Making 9 t u (raised K (state t).vars (state t).room (table t q) (table t 9) e) (made_in 9 answer) → Making 9 s u (raised K (state s).vars (state s).room (table s q) xs n) (made_in 9 answer)
   row-raised t u q inside xs e n answer m same r =
       let there : table t 9 ≡ xs = let o = m.result in cc in
       making_after 9 s t u _ _ (made_in 9 answer) (made_kept 9 s t (Ok xs) (Ok 9) m) (λ i. raised K (variables (m.format i)) (m.room i) (m.others q inside i) (there i) (same i)) r
 
-  pub row-refused : (a : Result (List (Row V)) Refusal) (t : Desk V G) (x : Refusal) → Making 9 s t a (Err x) → Making 8 s t (continued a (λ ts. limited (state s).room (sum K (table s 8) ts))) (Err x)
+  pub row-refused : (a : Result (List (Row V)) Refusal) (t : Worktop V G) (x : Refusal) → Making 9 s t a (Err x) → Making 8 s t (continued a (λ ts. limited (state s).room (sum K (table s 8) ts))) (Err x)
   row-refused a t x m = made_by 8 s t _ (Err x) (kept_fewer (below 9) (below 8) s t (λ o h. omega arith) (made_kept 9 s t a (Err x) m)) (ap (λ r. continued r (λ ts. limited (state s).room (sum K (table s 8) ts))) m.result)
 
-  module _ (a : Result (List (Row V)) Refusal) (t u : Desk V G) (m : Making 9 s t a (Ok 9)) (answer : Result (Unit {0}) Refusal) where
+  module _ (a : Result (List (Row V)) Refusal) (t u : Worktop V G) (m : Making 9 s t a (Ok 9)) (answer : Result (Unit {0}) Refusal) where
     abbrev total : Result (List (Row V)) Refusal
     total = continued a (λ ts. limited (state s).room (sum K (table s 8) ts))
 
@@ -116,7 +116,7 @@ module _ {V : Type 0} {G : Ghosts V} (K : Kind V) (s : Desk V G) where
         by (Ok xs) h = absurd (let z : ◌≡◌ {A = ℕ} 0 1 = cc in omega arith)
         by (Err y) h = cc
 
-    pub row_summed : answer ≡ answered (added K (contents t.areas) 10 8 9) → contents u.areas ≡ storing (contents t.areas) 10 (rows_of (added K (contents t.areas) 10 8 9)) → Kept (but 10) t u → answer ≡ Ok tt → (v : Desk V G) → contents v.areas ≡ storing (contents u.areas) 8 (table u 10) → Kept (but 8) u v → Making 8 s v total (Ok 8)
+    pub row_summed : answer ≡ answered (added K (contents t.areas) 10 8 9) → contents u.areas ≡ storing (contents t.areas) 10 (rows_of (added K (contents t.areas) 10 8 9)) → Kept (but 10) t u → answer ≡ Ok tt → (v : Worktop V G) → contents v.areas ≡ storing (contents u.areas) 8 (table u 10) → Kept (but 8) u v → Making 8 s v total (Ok 8)
     row_summed answers leaves k e v copied l =
         made_by 8 s v total (Ok 8) (kept-after (below 9) (but 8) (below 8) s u v (λ o h. (omega arith, λ z. omega arith)) (kept-sum k) l)
         (ap Ok (ap (λ d. d.tables 8) copied ∙ table-there (contents u.areas) 8 (table u 10) (omega arith) ∙ ap (λ d. d.tables 10) leaves ∙ table-there (contents t.areas) 10 _ (omega arith) ∙ ap rows_of summed) ∙ by total (sym e ∙ answers ∙ ap answered summed))
@@ -130,18 +130,18 @@ continued_twice : {V : Type 0} (r : Result (List (Row V)) Refusal) (f h : List (
 continued_twice (Ok xs) f h = refl
 continued_twice (Err e) f h = refl
 
-module _ {V : Type 0} {G : Ghosts V} (K : Kind V) (v : ℕ) (qs xs : List (Row V)) (s : Desk V G) where
+module _ {V : Type 0} {G : Ghosts V} (K : Kind V) (v : ℕ) (qs xs : List (Row V)) (s : Worktop V G) where
   abbrev left-sum : List (Row V) → List (Row V) → Result (List (Row V)) Refusal
   left-sum = substituted K (state s).vars (state s).room v qs
 
-  pub record Summing (t : Desk V G) (i : ℕ) : Type 0 where
+  pub record Summing (t : Worktop V G) (i : ℕ) : Type 0 where
     pub kept : Kept (below 8) s t
     pub whole : left-sum (table t 8) (drop i xs) ≡ left-sum [] xs
 
   pub summing_none : table s 8 ≡ [] → Summing s 0
   summing_none e = record { kept = kept_same (below 8) s; whole = ap (λ acc. left-sum acc xs) e }
 
-  module _ (q : ℕ) (inside : q < 8) (same : table s q ≡ qs) (t u : Desk V G) (i : ℕ) (r : Summing t i) (more : i < length xs) (x : Row V) (is : x ≡ get_or xs i x) (answer : Result (Unit {0}) Refusal) (m : Making 8 t u (continued (term_raised K (state t).vars (state t).room v (table t q) x) (λ ts. limited (state t).room (sum K (table t 8) ts))) (made_in 8 answer)) where
+  module _ (q : ℕ) (inside : q < 8) (same : table s q ≡ qs) (t u : Worktop V G) (i : ℕ) (r : Summing t i) (more : i < length xs) (x : Row V) (is : x ≡ get_or xs i x) (answer : Result (Unit {0}) Refusal) (m : Making 8 t u (continued (term_raised K (state t).vars (state t).room v (table t q) x) (λ ts. limited (state t).room (sum K (table t 8) ts))) (made_in 8 answer)) where
     abbrev tail : List (Row V) → Result (List (Row V)) Refusal
     tail acc = left-sum acc (drop (i + 1) xs)
 
@@ -162,5 +162,5 @@ module _ {V : Type 0} {G : Ghosts V} (K : Kind V) (v : ℕ) (qs xs : List (Row V
     pub summing_refused : (y : Refusal) → answer ≡ Err y → Making 8 s u (left-sum [] xs) (Err y)
     summing_refused y e = made_by 8 s u (left-sum [] xs) (Err y) so_far_sum (ap (λ z. continued (made_of (contents u.areas) (made_in 8 z)) tail) (sym e) ∙ next-sum)
 
-  pub summing_all : (t : Desk V G) (i : ℕ) → Summing t i → length xs ≤ i → Making 8 s t (left-sum [] xs) (Ok 8)
+  pub summing_all : (t : Worktop V G) (i : ℕ) → Summing t i → length xs ≤ i → Making 8 s t (left-sum [] xs) (Ok 8)
   summing_all t i r all = made_by 8 s t (left-sum [] xs) (Ok 8) r.kept (sym (at_drop_all (left-sum (table t 8)) xs i all) ∙ r.whole)

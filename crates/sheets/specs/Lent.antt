@@ -1,6 +1,6 @@
 -- The lent rows of a sheet, all of them, and what its calls leave there.
 --     Lent V              the lent rows, the count of each place, and the format's variables
---     lent_of d           those of the desk d
+--     lent_on w, lent_of d     those of the worktop w, of the desk d
 --     room s              the rows of one area of s
 --     count s p           how many rows the place p has
 --     place s p           the rows of the place p
@@ -28,17 +28,21 @@ use Rattle.rows.specs.Tables.{blank, row, sum, limited}
 use Rattle.rows.specs.declared.Row.{Row}
 use Rattle.areas.specs.Shares.{capacity}
 use Rattle.sheets.specs.States.{placed}
-use Rattle.sheets.specs.Desks.{state}
+use Rattle.sheets.specs.Worktops.{state}
 use Rattle.sheets.specs.Calls.{all_placed}
 use Rattle.sheets.specs.declared.desk.Desk.{Desk}
+use Rattle.sheets.specs.declared.worktop.Worktop.{Worktop}
 
 pub record Lent (V : Type 0) : Type 0 where
   pub rows : List (Row V)
   pub counts : List ℕ
   pub vars : List Variable
 
+abbrev pub lent_on : {V : Type 0} {G : Ghosts V} → Worktop V G → Lent V
+lent_on w = record { rows = w.areas.rows.now; counts = map (λ p. length ((state w).places p)) (range_with_len 0 8); vars = variables w.format }
+
 abbrev pub lent_of : {V : Type 0} {G : Ghosts V} → Desk V G → Lent V
-lent_of s = record { rows = s.areas.rows.now; counts = map (λ p. length ((state s).places p)) (range_with_len 0 8); vars = variables s.format }
+lent_of d = lent_on d.top
 
 abbrev pub room : {V : Type 0} → Lent V → ℕ
 room s = capacity (length s.rows)

@@ -1,4 +1,5 @@
 pub mod States
+pub mod Worktops
 pub mod Desks
 pub mod Sheets
 pub mod Ends

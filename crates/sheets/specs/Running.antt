@@ -16,7 +16,7 @@ use Rattle.sheets.specs.States.{placed}
 use Rattle.sheets.specs.declared.desk.Desk.{Desk}
 
 abbrev pub running : {V : Type 0} {G : Ghosts V} → Desk V G → List (Row V)
-running s = (contents s.areas).tables 8
+running s = (contents s.top.areas).tables 9
 
 abbrev pub follows : {V : Type 0} → ℕ → Row V → List (Row V) → Bool
 follows k x [] = nat_lt k x.key

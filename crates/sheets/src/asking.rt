@@ -17,7 +17,7 @@ impl<K: Ring> Desk<'_, K> {
     pub fn format(&self) -> Format
         ensures { variables result ≡ (desks.state self.now).vars }
     {
-        self.format
+        self.top.format
     }
 }
 
@@ -26,7 +26,7 @@ impl<K: Ring> Sheet<'_, K> {
     pub fn room(&self) -> usize
         ensures { result ≡ (state self.now).room }
     {
-        self.desk.areas.room()
+        self.desk.top.areas.room()
     }
 
     // The format that the sheet was opened with.
@@ -41,6 +41,6 @@ impl<K: Ring> Sheet<'_, K> {
         ensures { MatchResult result (λ x. (place < 8) × (x.now ≡ (state self.now).places place)) (λ e. (8 ≤ place) × (e ≡ Place)) }
     {
         let place = crate::place::Place::try_from(place)?;
-        Ok(self.desk.areas.table(place.area))
+        Ok(self.desk.top.areas.table(place.area))
     }
 }

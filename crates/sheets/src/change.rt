@@ -5,13 +5,13 @@ ghost use Rattle.sheets.specs.Ends.{made_in, made_of};
 ghost use Rattle.sheets.specs.Working.{but, Kept, table};
 ghost use Rattle.areas.specs.Areas.{contents};
 
-use crate::desk::Desk;
 use crate::place::Place;
+use crate::worktop::Worktop;
 use refusals::Refusal;
 use rings::Ring;
 use rows::Row;
 
-impl<K: Ring> Desk<'_, K> {
+impl<K: Ring> Worktop<'_, K> {
     // Makes what a closure makes of the rows of a place, each by itself, the table of a working area.
     pub(crate) fn change_rows<F: Fn(Row<K>) -> Result<Option<Row<K>>, Refusal>>(
         &mut self,

@@ -1,11 +1,12 @@
-// What a sheet works on.
-use areas::Areas;
-use formats::Format;
+// What a sheet works on, between calls.
+ghost use Rattle.sheets.specs.Worktops.{Free};
+
+use crate::worktop::Worktop;
 use rings::Ring;
 
-// The first eight areas are the places; the other four are for working.
+// The first of the working areas is free: a call that needs at most this one leaves the running table, in the second, as it is.
 #[derive(Drop)]
 pub struct Desk<'a, K: Ring> {
-    pub(crate) areas: Areas<'a, K>,
-    pub(crate) format: Format,
+    pub(crate) top: Worktop<'a, K>,
+    ghost free: { Free top },
 }

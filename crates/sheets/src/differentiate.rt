@@ -4,13 +4,13 @@ ghost use Rattle.formats.specs.Drafts.{variables};
 ghost use Rattle.areas.specs.Areas.{answered};
 ghost use Rattle.sheets.specs.States.{kept};
 ghost use Rattle.sheets.specs.Desks.{Blank};
-ghost use Rattle.sheets.specs.Sheets.{state, lent};
+ghost use Rattle.sheets.specs.Sheets.{state, lent, rows_lent};
+ghost use Rattle.sheets.specs.Running.{running};
 ghost use Rattle.sheets.specs.Lent.{kept as kept_rows};
 ghost use Rattle.sheets.specs.Calls.{differentiated};
 ghost use Rattle.sheets.specs.Changes.{row_derived};
 ghost use Rattle.sheets.specs.Promises.{Differentiating};
 
-use crate::finish::made_in;
 use crate::place::Place;
 use crate::sheet::Sheet;
 use formats::Format;
@@ -49,18 +49,21 @@ impl<K: Ring> Sheet<'_, K> {
         ensures answer { result ≡ answered (differentiated K.kind (state self.old) res place variable) }
         ensures leaves { state self.new ≡ kept (state self.old) res (differentiated K.kind (state self.old) res place variable) }
         ensures blank { Blank self.old.desk → Blank self.new.desk }
-        ensures lent { Blank self.old.desk → lent self.new ≡ kept_rows K.kind (lent self.old) res (differentiated K.kind (state self.old) res place variable) }
+        ensures long { rows_lent self.new ≡ rows_lent self.old }
+        ensures running { running self.new.desk ≡ running self.old.desk }
+        ensures lent { lent self.new ≡ kept_rows K.kind (lent self.old) res (differentiated K.kind (state self.old) res place variable) }
         ensures algebra { Differentiating K.kind (state self.old) (state self.new) result res place variable }
     {
         let res = Place::try_from(res)?;
         let place = Place::try_from(place)?;
-        if variable >= self.desk.format.count() {
+        if variable >= self.desk.top.format.count() {
             return Err(Refusal::Variable);
         }
-        let format = self.desk.format;
-        let answer = self
-            .desk
+        let format = self.desk.top.format;
+        let desk = &mut self.desk;
+        let answer = desk
+            .top
             .change_rows(8, place, |row| derived_row(&format, row, variable));
-        self.desk.finish(res, made_in(8, answer))
+        desk.top.settle(res, answer)
     }
 }

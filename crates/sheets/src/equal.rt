@@ -28,8 +28,8 @@ impl<K: Ring> Sheet<'_, K> {
         let left = Place::try_from(left)?;
         let right = Place::try_from(right)?;
         Ok(same_rows(
-            self.desk.areas.table(left.area),
-            self.desk.areas.table(right.area),
+            self.desk.top.areas.table(left.area),
+            self.desk.top.areas.table(right.area),
         ))
     }
 }

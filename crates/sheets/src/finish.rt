@@ -1,11 +1,11 @@
 // The end of a call.
 ghost use Rattle.std.specs.Prelude.{◌≡◌};
 ghost use Rattle.areas.specs.Areas.{contents};
-ghost use Rattle.sheets.specs.Desks.{state, Blank};
+ghost use Rattle.sheets.specs.Worktops.{state, Blank};
 ghost use Rattle.sheets.specs.Ends.{made_in, ended, finished};
 
-use crate::desk::Desk;
 use crate::place::Place;
+use crate::worktop::Worktop;
 use refusals::Refusal;
 use rings::Ring;
 
@@ -16,7 +16,7 @@ pub(crate) fn made_in(area: usize, answer: Result<(), Refusal>) -> Result<usize,
     answer.map(|()| area)
 }
 
-impl<K: Ring> Desk<'_, K> {
+impl<K: Ring> Worktop<'_, K> {
     // Empties the working areas.
     pub(crate) fn sweep(&mut self)
         ensures leaves { state self.new ≡ state self.old }

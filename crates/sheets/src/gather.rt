@@ -1,16 +1,16 @@
 // The rows of a place that a truncation keeps the products of with a row.
 ghost use Rattle.std.specs.Prelude.{◌≡◌};
 ghost use Rattle.arithmetic.specs.Truncating.{near};
-ghost use Rattle.sheets.specs.Desks.{state};
+ghost use Rattle.sheets.specs.Worktops.{state};
 ghost use Rattle.sheets.specs.Working.{table, but, Kept};
 
-use crate::desk::Desk;
 use crate::place::Place;
 use crate::truncation::Truncation;
+use crate::worktop::Worktop;
 use rings::Ring;
 use rows::Row;
 
-impl<K: Ring> Desk<'_, K> {
+impl<K: Ring> Worktop<'_, K> {
     // Makes the rows of a place whose products with a row the truncation keeps the table of the area 9.
     pub(crate) fn gather(&mut self, left: Place, row: Row<K>, truncation: Truncation)
         ensures kept { Kept (but 9) self.old self.new }

@@ -24,6 +24,6 @@ impl<K: Ring> Sheet<'_, K> {
         ensures algebra { LeadingRow K.kind (state self.now) place result }
     {
         let place = Place::try_from(place)?;
-        Ok(first_row(self.desk.areas.table(place.area)))
+        Ok(first_row(self.desk.top.areas.table(place.area)))
     }
 }

@@ -20,12 +20,14 @@ mod open;
 mod place;
 mod product;
 mod running;
+mod settle;
 mod sheet;
 mod substitute;
 mod subtract;
 mod truncate;
 mod truncation;
 mod variable;
+mod worktop;
 
 pub use desk::Desk;
 pub use sheet::Sheet;

@@ -3,7 +3,7 @@ ghost use Rattle.std.specs.Prelude.{◌≡◌};
 ghost use Rattle.areas.specs.Areas.{answered};
 ghost use Rattle.sheets.specs.States.{kept};
 ghost use Rattle.sheets.specs.Desks.{Blank};
-ghost use Rattle.sheets.specs.Sheets.{state, lent};
+ghost use Rattle.sheets.specs.Sheets.{state, lent, rows_lent};
 ghost use Rattle.sheets.specs.Lent.{kept as kept_rows};
 ghost use Rattle.sheets.specs.Calls.{multiplied};
 ghost use Rattle.sheets.specs.Promises.{Multiplying};
@@ -19,13 +19,15 @@ impl<K: Ring> Sheet<'_, K> {
         ensures answer { result ≡ answered (multiplied K.kind (state self.old) res left right) }
         ensures leaves { state self.new ≡ kept (state self.old) res (multiplied K.kind (state self.old) res left right) }
         ensures blank { Blank self.old.desk → Blank self.new.desk }
+        ensures long { rows_lent self.new ≡ rows_lent self.old }
         ensures lent { Blank self.old.desk → lent self.new ≡ kept_rows K.kind (lent self.old) res (multiplied K.kind (state self.old) res left right) }
         ensures algebra { Multiplying K.kind (state self.old) (state self.new) result res left right }
     {
         let res = Place::try_from(res)?;
         let left = Place::try_from(left)?;
         let right = Place::try_from(right)?;
-        let made = self.desk.product_in(left.area, right.area);
-        self.desk.finish(res, made)
+        let desk = &mut self.desk;
+        let made = desk.top.product_in(left.area, right.area);
+        desk.top.finish(res, made)
     }
 }

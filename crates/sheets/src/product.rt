@@ -3,12 +3,12 @@ ghost use Rattle.std.specs.Prelude.{◌≡◌, ◌-◌, ◌<◌, ◌≤◌, repl
 ghost use Rattle.formats.specs.Drafts.{variables};
 ghost use Rattle.areas.specs.Areas.{answered};
 ghost use Rattle.arithmetic.specs.Multiplying.{product};
-ghost use Rattle.sheets.specs.Desks.{state};
+ghost use Rattle.sheets.specs.Worktops.{state};
 ghost use Rattle.sheets.specs.Ends.{made_in, Making};
 ghost use Rattle.sheets.specs.Working.{highest, turned, table};
 
-use crate::desk::Desk;
 use crate::finish::made_in;
+use crate::worktop::Worktop;
 use formats::Format;
 use refusals::Refusal;
 use rings::Ring;
@@ -25,7 +25,7 @@ pub(crate) fn greatest_of<K: Copy>(format: &Format, rows: &[Row<K>]) -> [u16; 8]
     greatest
 }
 
-impl<K: Ring> Desk<'_, K> {
+impl<K: Ring> Worktop<'_, K> {
     // Adds the table in `factors`, whose greatest exponents are `greatest`, times a row to the running table in the area `at`, and answers the area of the new one.
     pub(crate) fn turn(
         &mut self,

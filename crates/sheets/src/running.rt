@@ -3,8 +3,8 @@ ghost use Rattle.std.specs.Prelude.{◌≡◌, ◌<◌, [], ◌∷◌, length};
 ghost use Rattle.rows.specs.Tables.{row as row_of, sum, limited};
 ghost use Rattle.areas.specs.Areas.{answered, rows_of};
 ghost use Rattle.sheets.specs.States.{kept};
-ghost use Rattle.sheets.specs.Desks.{state, Blank};
-ghost use Rattle.sheets.specs.Sheets.{state as state_of};
+ghost use Rattle.sheets.specs.Desks.{state, rows_lent, Blank};
+ghost use Rattle.sheets.specs.Sheets.{state as state_of, rows_lent as lent_to};
 ghost use Rattle.sheets.specs.Running.{running, below_last, entering, storing_running};
 
 use crate::desk::Desk;
@@ -26,8 +26,9 @@ impl<K: Ring> Desk<'_, K> {
     pub fn begin(&mut self)
         ensures empty { running self.new ≡ [] }
         ensures leaves { state self.new ≡ state self.old }
+        ensures long { rows_lent self.new ≡ rows_lent self.old }
     {
-        self.areas.clear(8);
+        self.top.areas.clear(9);
     }
 
     // Adds a row to the running table by a sum.
@@ -36,11 +37,12 @@ impl<K: Ring> Desk<'_, K> {
         ensures answer { result ≡ answered (limited (state self.old).room (sum K.kind (running self.old) (row ∷ []))) }
         ensures made { running self.new ≡ rows_of (limited (state self.old).room (sum K.kind (running self.old) (row ∷ []))) }
         ensures leaves { state self.new ≡ state self.old }
+        ensures long { rows_lent self.new ≡ rows_lent self.old }
     {
-        self.areas.clear(10);
-        self.areas.push(10, row)?;
-        let answer = self.areas.add(9, 8, 10);
-        self.areas.copy(8, 9);
+        self.top.areas.clear(10);
+        self.top.areas.push(10, row)?;
+        let answer = self.top.areas.add(11, 9, 10);
+        self.top.areas.copy(9, 11);
         answer
     }
 
@@ -49,12 +51,13 @@ impl<K: Ring> Desk<'_, K> {
         ensures answer { result ≡ answered (entering K.kind (state self.old).room (running self.old) (row_of key coefficient)) }
         ensures made { running self.new ≡ rows_of (entering K.kind (state self.old).room (running self.old) (row_of key coefficient)) }
         ensures leaves { state self.new ≡ state self.old }
+        ensures long { rows_lent self.new ≡ rows_lent self.old }
     {
         let row = Row { key, coefficient };
-        if !below_last(key, self.areas.table(8)) {
+        if !below_last(key, self.top.areas.table(9)) {
             return self.merge(row);
         }
-        let answer = self.areas.push(8, row);
+        let answer = self.top.areas.push(9, row);
         if answer.is_err() {
             self.begin();
         }
@@ -65,12 +68,13 @@ impl<K: Ring> Desk<'_, K> {
     pub fn store(&mut self, place: usize) -> Result<(), Refusal>
         ensures answer { result ≡ answered (storing_running self.old place) }
         ensures leaves { state self.new ≡ kept (state self.old) place (storing_running self.old place) }
+        ensures long { rows_lent self.new ≡ rows_lent self.old }
         ensures blank { Blank self.new }
     {
         match Place::try_from(place) {
-            Ok(place) => self.finish(place, Ok(8)),
+            Ok(place) => self.top.finish(place, Ok(9)),
             Err(refusal) => {
-                self.sweep();
+                self.top.sweep();
                 Err(refusal)
             }
         }
@@ -79,9 +83,10 @@ impl<K: Ring> Desk<'_, K> {
     // Gives the running table up.
     pub fn abandon(&mut self)
         ensures leaves { state self.new ≡ state self.old }
+        ensures long { rows_lent self.new ≡ rows_lent self.old }
         ensures blank { Blank self.new }
     {
-        self.sweep();
+        self.top.sweep();
     }
 }
 
@@ -90,6 +95,7 @@ impl<K: Ring> Sheet<'_, K> {
     pub fn begin(&mut self)
         ensures empty { running self.new.desk ≡ [] }
         ensures leaves { state_of self.new ≡ state_of self.old }
+        ensures long { lent_to self.new ≡ lent_to self.old }
     {
         self.desk.begin();
     }
@@ -99,6 +105,7 @@ impl<K: Ring> Sheet<'_, K> {
         ensures answer { result ≡ answered (entering K.kind (state_of self.old).room (running self.old.desk) (row_of key coefficient)) }
         ensures made { running self.new.desk ≡ rows_of (entering K.kind (state_of self.old).room (running self.old.desk) (row_of key coefficient)) }
         ensures leaves { state_of self.new ≡ state_of self.old }
+        ensures long { lent_to self.new ≡ lent_to self.old }
     {
         self.desk.enter(key, coefficient)
     }
@@ -107,6 +114,7 @@ impl<K: Ring> Sheet<'_, K> {
     pub fn store(&mut self, place: usize) -> Result<(), Refusal>
         ensures answer { result ≡ answered (storing_running self.old.desk place) }
         ensures leaves { state_of self.new ≡ kept (state_of self.old) place (storing_running self.old.desk place) }
+        ensures long { lent_to self.new ≡ lent_to self.old }
         ensures blank { Blank self.new.desk }
     {
         self.desk.store(place)
@@ -115,6 +123,7 @@ impl<K: Ring> Sheet<'_, K> {
     // Gives the running table up.
     pub fn abandon(&mut self)
         ensures leaves { state_of self.new ≡ state_of self.old }
+        ensures long { lent_to self.new ≡ lent_to self.old }
         ensures blank { Blank self.new.desk }
     {
         self.desk.abandon();

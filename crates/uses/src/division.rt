@@ -7,7 +7,7 @@ ghost use Rattle.areas.specs.Areas.{answered};
 ghost use Rattle.arithmetic.specs.Dividing.{Over};
 ghost use Rattle.sheets.specs.States.{kept};
 ghost use Rattle.sheets.specs.Desks.{Blank};
-ghost use Rattle.sheets.specs.Sheets.{state};
+ghost use Rattle.sheets.specs.Sheets.{state, rows_lent};
 ghost use Rattle.conduct.specs.Uses.{Promise};
 ghost use Rattle.conduct.proofs.Settled.{over_domains, over_rings};
 ghost use Rattle.uses.specs.Dividing.{rows_of, from_none};
@@ -44,7 +44,8 @@ pub trait Divides<K: Ring>: Copy {
     ) -> Result<(), Refusal>
         ensures answer { (over : Over K) → divides_by over → result ≡ answered (rows_of K.kind over may (state sheet.old) place dividend divisor) }
         ensures leaves { (over : Over K) → divides_by over → state sheet.new ≡ kept (state sheet.old) place (rows_of K.kind over may (state sheet.old) place dividend divisor) }
-        ensures blank { Blank sheet.old.desk → Blank sheet.new.desk };
+        ensures blank { Blank sheet.old.desk → Blank sheet.new.desk }
+        ensures long { rows_lent sheet.new ≡ rows_lent sheet.old };
 
     // There is a leave only where calls may divide.
     ghost there: { Self → may ≡ true };

@@ -4,7 +4,7 @@ ghost use Rattle.formats.specs.Drafts.{Sound};
 ghost use Rattle.formats.specs.declared.variable.Variable.{Variable as VariableOf};
 ghost use Rattle.arithmetic.specs.Dividing.{Over};
 ghost use Rattle.sheets.specs.Desks.{Blank};
-ghost use Rattle.sheets.specs.Sheets.{state};
+ghost use Rattle.sheets.specs.Sheets.{state, rows_lent};
 ghost use Rattle.conduct.specs.Calls.{answer as answer_in, after};
 ghost use Rattle.uses.specs.Answers.{answer_of};
 ghost use Rattle.uses.specs.Performing.{call_of, output_after};
@@ -26,6 +26,7 @@ fn carry_out<K: Ring, D: Divides<K>>(
     ensures leaves { (over : Over K) → D.divides_by over → state sheet.new ≡ after K.kind over (state sheet.old) (call_of (length output.old) call.now) }
     ensures output { output.new ≡ output_after K.kind (state sheet.old) (call_of (length output.old) call.now) output.old }
     ensures blank { Blank sheet.old.desk → Blank sheet.new.desk }
+    ensures long { rows_lent sheet.new ≡ rows_lent sheet.old }
 {
     match *call {
         Call::Read(r, text) => return Ok(Reply::Bytes(read(sheet, r, text)?)),
@@ -58,6 +59,7 @@ pub fn perform<K: Ring, D: Divides<K>>(
     ensures leaves { (over : Over K) → D.divides_by over → state sheet.new ≡ after K.kind over (state sheet.old) (call_of (length output.old) call.now) }
     ensures output { output.new ≡ output_after K.kind (state sheet.old) (call_of (length output.old) call.now) output.old }
     ensures blank { Blank sheet.old.desk → Blank sheet.new.desk }
+    ensures long { rows_lent sheet.new ≡ rows_lent sheet.old }
     ensures promise { (over : Over K) (vs : List VariableOf) → D.divides_by over → Sound vs → (D.may ≡ true → K.whole ≡ true) → Onward K.kind over vs D.may (state sheet.old) (call_of (length output.old) call.now ∷ []) (state sheet.new) }
 {
     carry_out(sheet, call, output)

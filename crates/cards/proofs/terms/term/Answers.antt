@@ -26,6 +26,7 @@ returns-in_err-at_byte-in-Whole g c =
           ∙ sym (entered_refused K (state s) (running s) c.requires c.args.partial c.args.number c.in-Some.number c.in-Some.is c.take.result took x b (c.in_ok-partial.was ∙ ap Ok c.in-Whole.is) end go c.in_err-at_byte-in-Whole.field-0.0 (ap (λ a. faults.at_byte a b) (sym c.enter.ensures.answer) ∙ sym c.at_byte.ensures ∙ c.in_err-at_byte-in-Whole.was));
       falling = subst Falling (sym c.enter.ensures.made) (entering_falls K (state s).room (running s) x c.requires);
       leaves = c.enter.ensures.leaves;
+      long = c.enter.ensures.long;
     }
 
 pub returns-in_ok-at_byte-in-Whole : goal.returns-in_ok-at_byte-in-Whole
@@ -41,4 +42,5 @@ returns-in_ok-at_byte-in-Whole g c =
           ∙ sym (entered_on K (state s) (running s) c.requires c.args.partial c.args.number c.in-Some.number c.in-Some.is c.take.result took x b (c.in_ok-partial.was ∙ ap Ok c.in-Whole.is) end go tt (ap (λ a. faults.at_byte a b) (sym c.enter.ensures.answer) ∙ sym c.at_byte.ensures ∙ c.in_ok-at_byte-in-Whole.was));
       falling = subst Falling (sym c.enter.ensures.made) (entering_falls K (state s).room (running s) x c.requires);
       leaves = c.enter.ensures.leaves;
+      long = c.enter.ensures.long;
     }

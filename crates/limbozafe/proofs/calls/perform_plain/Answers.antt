@@ -6,4 +6,4 @@ use Rattle.limbozafe.proofs.calls.perform_plain.Goals as goal
 pub returns : goal.returns
 returns g c =
     let n = length c.args.output.now in
-    record { promise = λ over vs by sound whole. subst (λ x. Onward g.K.Ring.kind over vs g.D.Divides.may (state c.args.sheet.now) (x ∷ []) (state c.perform.new.sheet)) (c.among.ensures n) (c.perform.ensures.promise over vs by sound whole) }
+    record { blank = c.perform.ensures.blank; long = c.perform.ensures.long; promise = λ over vs by sound whole. subst (λ x. Onward g.K.Ring.kind over vs g.D.Divides.may (state c.args.sheet.now) (x ∷ []) (state c.perform.new.sheet)) (c.among.ensures n) (c.perform.ensures.promise over vs by sound whole) }

@@ -1,4 +1,4 @@
-use Rattle.std.proofs.Common.{◌≡◌, ◌<◌, map, length, take, drop, ap, ◌∙◌, subst, arith, rules}
+use Rattle.std.proofs.Common.{◌≡◌, ◌<◌, map, length, take, drop, refl, ap, ◌∙◌, subst, arith, rules}
 use Rattle.std.proofs.lemmas.List.{length-take, take_all}
 use borrow.Author.Rules.{scaled_Fits}
 use Rattle.arithmetic.specs.Dividing.{Over}
@@ -11,7 +11,7 @@ use Rattle.uses.proofs.Lists.{turn_none, turn_more, goes_on, calls_allowed}
 use Rattle.uses.proofs.several.run.Goals as goal
 
 pub loop-i-init : goal.loop-i-init
-loop-i-init g c = (turn_none g.K.Ring.kind (call_of (length c.args.output.now)) (state c.args.sheet.now) (take c.min-count.result c.args.calls.now) c.args.output.now g.D.Divides.divides_by c.args.answers.now, λ b. b)
+loop-i-init g c = (turn_none g.K.Ring.kind (call_of (length c.args.output.now)) (state c.args.sheet.now) (take c.min-count.result c.args.calls.now) c.args.output.now g.D.Divides.divides_by c.args.answers.now, (λ b. b, refl))
 
 pub offset_bounds-answers-i : goal.offset_bounds-answers-i
 offset_bounds-answers-i g c =
@@ -32,7 +32,7 @@ loop-i-preserved g c =
     let long = length-take c.min-count.result c.args.calls.now in
     let lt : c.loop-i.i < length c.loop-i.answers = omega (arith, long) in
     let lt' : c.loop-i.i < length c.args.answers.now = omega (arith, long) in
-    (turn_more K (call_of n) (state c.args.sheet.now) calls c.args.output.now D.divides_by c.args.answers.now c.loop-i.i t (state c.perform.new.sheet) c.loop-i.answers c.perform.result c.loop-i.output c.perform.new.output x c.loop-i-test.true lt lt' c.call-item.is c.loop-i.invariant.0 (λ over by. P.leaves over by ∙ ap (λ m. after K over t (call_of m x)) same) (λ over by. P.answer over by ∙ ap (λ m. answer K over t (call_of m x)) same) (P.output ∙ ap (λ m. output_after K t (call_of m x) c.loop-i.output) same), λ b. P.blank (c.loop-i.invariant.1 b))
+    (turn_more K (call_of n) (state c.args.sheet.now) calls c.args.output.now D.divides_by c.args.answers.now c.loop-i.i t (state c.perform.new.sheet) c.loop-i.answers c.perform.result c.loop-i.output c.perform.new.output x c.loop-i-test.true lt lt' c.call-item.is c.loop-i.invariant.0 (λ over by. P.leaves over by ∙ ap (λ m. after K over t (call_of m x)) same) (λ over by. P.answer over by ∙ ap (λ m. answer K over t (call_of m x)) same) (P.output ∙ ap (λ m. output_after K t (call_of m x) c.loop-i.output) same), (λ b. P.blank (c.loop-i.invariant.1.0 b), P.long ∙ c.loop-i.invariant.1.1))
 
 pub returns : goal.returns
 returns g c =
@@ -50,6 +50,7 @@ returns g c =
       count = c.min-count.ensures;
       ran = ran;
       others = subst (λ k. drop k c.loop-i.answers ≡ drop k c.args.answers.now) end c.loop-i.invariant.0.others;
-      blank = c.loop-i.invariant.1;
+      blank = c.loop-i.invariant.1.0;
+      long = c.loop-i.invariant.1.1;
       promise = λ over vs by sound whole. goes_on K over vs D.may s t (map (call_of n) calls) (g.met.D.Divides.promised over vs by whole sound) (calls_allowed n D.may g.met.D.Divides.there calls) (ran over by).leaves;
     }

@@ -1,9 +1,9 @@
 use Rattle.std.proofs.Common.{◌≡◌, subst, arith}
-use Rattle.sheets.specs.Lent.{lent_of}
+use Rattle.sheets.specs.Lent.{lent_on}
 use Rattle.formats.proofs.Keys.{sound}
 use Rattle.arithmetic.specs.Dividing.{quotient}
 use Rattle.arithmetic.proofs.Quotienting.{exact_division_lem}
-use Rattle.sheets.specs.Desks.{state}
+use Rattle.sheets.specs.Worktops.{state}
 use Rattle.sheets.specs.Ends.{Making}
 use Rattle.sheets.specs.Working.{table}
 use Rattle.sheets.proofs.Outcomes.{three_placed, place-found, named, ends, tested}
@@ -15,7 +15,7 @@ pub returns : goal.returns
 returns g c =
     let K = g.K.Ring.kind in
     let over = g.K.Domain.quotient in
-    let s = c.args.self.now.desk in
+    let s = c.args.self.now.desk.top in
     let r = c.args.res in
     let p = c.args.left in
     let q = c.args.right in
@@ -33,15 +33,19 @@ returns g c =
       answer = w.answers;
       leaves = w.leaves;
       blank = w.blank;
+      long = w.long;
       lent = λ b. left_lent s u r _ _ w b (λ _ _. er.1);
       algebra = λ whole f h _ hp hq. divides K (state s) f r (f p) (f q) h (state u) a c.finish.result e.answers e.leaves ((exact_division_lem K over g.met.K.Ring.ring g.met.K.Ring.values g.met.K.Domain.division (g.met.K.Ring.wholeness whole) (state s).vars (state s).room (sound s.format).narrow).quotients (f p) (f q) ((state s).places p) ((state s).places q) (h p hp) (h q hq));
     }
 
 pub returns-in_err-res-clause-lent : goal.returns-in_err-res-clause-lent
-returns-in_err-res-clause-lent g c = λ _. misplaced_first g.K.Ring.kind (lent_of c.args.self.now.desk) c.args.res c.args.left c.args.right _ c.in_err-res.ensures.0
+returns-in_err-res-clause-lent g c = λ _. misplaced_first g.K.Ring.kind (lent_on c.args.self.now.desk.top) c.args.res c.args.left c.args.right _ c.in_err-res.ensures.0
 
 pub returns-in_err-left-clause-lent : goal.returns-in_err-left-clause-lent
-returns-in_err-left-clause-lent g c = λ _. misplaced_second g.K.Ring.kind (lent_of c.args.self.now.desk) c.args.res c.args.left c.args.right _ c.in_err-left.ensures.0
+returns-in_err-left-clause-lent g c = λ _. misplaced_second g.K.Ring.kind (lent_on c.args.self.now.desk.top) c.args.res c.args.left c.args.right _ c.in_err-left.ensures.0
 
 pub returns-in_err-right-clause-lent : goal.returns-in_err-right-clause-lent
-returns-in_err-right-clause-lent g c = λ _. misplaced_third g.K.Ring.kind (lent_of c.args.self.now.desk) c.args.res c.args.left c.args.right _ c.in_err-right.ensures.0
+returns-in_err-right-clause-lent g c = λ _. misplaced_third g.K.Ring.kind (lent_on c.args.self.now.desk.top) c.args.res c.args.left c.args.right _ c.in_err-right.ensures.0
+
+pub invariant_of-desk : goal.invariant_of-desk
+invariant_of-desk g c = record { free = c.finish.ensures.blank 8 (omega arith) (omega arith) }

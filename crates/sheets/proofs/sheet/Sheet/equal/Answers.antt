@@ -1,5 +1,5 @@
 use Rattle.std.proofs.Common.{◌≡◌, Ok, sym, ◌∙◌, subst}
-use Rattle.sheets.specs.Desks.{state}
+use Rattle.sheets.specs.Worktops.{state}
 use Rattle.sheets.specs.Calls.{same_rows}
 use Rattle.sheets.specs.Promises.{Same}
 use Rattle.sheets.proofs.Outcomes.{place-found}
@@ -9,7 +9,7 @@ use Rattle.sheets.proofs.sheet.Sheet.equal.Goals as goal
 pub returns-clause-algebra : goal.returns-clause-algebra
 returns-clause-algebra g c =
     let K = g.K.Ring.kind in
-    let s = c.args.self.now.desk in
+    let s = c.args.self.now.desk.top in
     let p = c.args.left in
     let q = c.args.right in
     let is : c.same_rows.result ≡ same_rows K ((state s).places p) ((state s).places q) =

@@ -1,9 +1,9 @@
 use Rattle.std.proofs.Common.{◌≡◌, length, ◌∙◌, subst, arith}
 use Rattle.std.proofs.lemmas.Bool.{le-leb, lt-leb, cond-true, cond-false}
-use Rattle.sheets.specs.Lent.{lent_of}
+use Rattle.sheets.specs.Lent.{lent_on}
 use Rattle.refusals.specs.declared.Refusal.TheVariants.{Prefix}
 use Rattle.arithmetic.specs.Truncating.{product_truncated}
-use Rattle.sheets.specs.Desks.{state}
+use Rattle.sheets.specs.Worktops.{state}
 use Rattle.sheets.specs.Ends.{Making}
 use Rattle.sheets.specs.Working.{table}
 use Rattle.sheets.proofs.Outcomes.{three_placed, place-found, named, ends, tested, passing, outcome, theory}
@@ -13,7 +13,7 @@ use Rattle.sheets.proofs.sheet.Sheet.multiply_truncated.Goals as goal
 pub returns : goal.returns
 returns g c =
     let K = g.K.Ring.kind in
-    let s = c.args.self.now.desk in
+    let s = c.args.self.now.desk.top in
     let r = c.args.res in
     let p = c.args.left in
     let q = c.args.right in
@@ -34,23 +34,27 @@ returns g c =
       answer = w.answers;
       leaves = w.leaves;
       blank = w.blank;
+      long = w.long;
       lent = λ b. left_lent s u r _ _ w b (λ _ _. er.1);
       algebra = λ _ f h _ hp hq. outcome K (state s) (state u) f r _ _ a c.finish.result e.answers e.leaves h ((theory K g.met.K.Ring.ring g.met.K.Ring.values s).truncated_products k n (f p) (f q) ((state s).places p) ((state s).places q) (h p hp) (h q hq));
     }
 
 pub returns-then-count-clause-lent : goal.returns-then-count-clause-lent
 returns-then-count-clause-lent g c =
-    let s = c.args.self.now.desk in
+    let s = c.args.self.now.desk.top in
     let er = c.in_ok-res.ensures in
     let ep = c.in_ok-left.ensures in
     let eq = c.in_ok-right.ensures in
-    λ _. refused_lent g.K.Ring.kind (lent_of s) c.args.res _ Prefix (cond-true _ _ _ (three_placed c.args.res c.args.left c.args.right er.1 ep.1 eq.1) ∙ cond-false _ _ _ (lt-leb c.args.count (length (state s).vars) (omega (arith, c.count.ensures, c.if-count.true))))
+    λ _. refused_lent g.K.Ring.kind (lent_on s) c.args.res _ Prefix (cond-true _ _ _ (three_placed c.args.res c.args.left c.args.right er.1 ep.1 eq.1) ∙ cond-false _ _ _ (lt-leb c.args.count (length (state s).vars) (omega (arith, c.count.ensures, c.if-count.true))))
 
 pub returns-in_err-res-clause-lent : goal.returns-in_err-res-clause-lent
-returns-in_err-res-clause-lent g c = λ _. misplaced_first g.K.Ring.kind (lent_of c.args.self.now.desk) c.args.res c.args.left c.args.right _ c.in_err-res.ensures.0
+returns-in_err-res-clause-lent g c = λ _. misplaced_first g.K.Ring.kind (lent_on c.args.self.now.desk.top) c.args.res c.args.left c.args.right _ c.in_err-res.ensures.0
 
 pub returns-in_err-left-clause-lent : goal.returns-in_err-left-clause-lent
-returns-in_err-left-clause-lent g c = λ _. misplaced_second g.K.Ring.kind (lent_of c.args.self.now.desk) c.args.res c.args.left c.args.right _ c.in_err-left.ensures.0
+returns-in_err-left-clause-lent g c = λ _. misplaced_second g.K.Ring.kind (lent_on c.args.self.now.desk.top) c.args.res c.args.left c.args.right _ c.in_err-left.ensures.0
 
 pub returns-in_err-right-clause-lent : goal.returns-in_err-right-clause-lent
-returns-in_err-right-clause-lent g c = λ _. misplaced_third g.K.Ring.kind (lent_of c.args.self.now.desk) c.args.res c.args.left c.args.right _ c.in_err-right.ensures.0
+returns-in_err-right-clause-lent g c = λ _. misplaced_third g.K.Ring.kind (lent_on c.args.self.now.desk.top) c.args.res c.args.left c.args.right _ c.in_err-right.ensures.0
+
+pub invariant_of-desk : goal.invariant_of-desk
+invariant_of-desk g c = record { free = c.finish.ensures.blank 8 (omega arith) (omega arith) }

@@ -4,7 +4,7 @@ use Rattle.rows.specs.Products.{joined}
 use Rattle.rows.specs.Tables.{limited}
 use Rattle.arithmetic.specs.Negating.{minus_one, negated}
 use Rattle.areas.specs.Areas.{contents, scaling}
-use Rattle.sheets.specs.Desks.{state}
+use Rattle.sheets.specs.Worktops.{state}
 use Rattle.sheets.specs.Ends.{Making}
 use Rattle.sheets.proofs.States.{with_areas, table-there, table-other, few-rows, passed, before}
 use Rattle.sheets.proofs.Outcomes.{two_placed, apart_areas, place-found, named, ends, tested, outcome, theory}
@@ -15,7 +15,7 @@ use Rattle.sheets.proofs.sheet.Sheet.negate.Goals as goal
 pub returns : goal.returns
 returns g c =
     let K = g.K.Ring.kind in
-    let s = c.args.self.now.desk in
+    let s = c.args.self.now.desk.top in
     let r = c.args.res in
     let p = c.args.place in
     let P = c.in_ok-place.place.area in
@@ -39,6 +39,10 @@ returns g c =
       answer = w.answers;
       leaves = w.leaves;
       blank = w.blank;
+      long = w.long;
       lent = λ b. left_lent s u r _ _ w b (λ _ _. er.1);
       algebra = λ f h _ hp. outcome K (state s) (state u) f r _ _ a c.finish.result e.answers e.leaves h ((theory K g.met.K.Ring.ring g.met.K.Ring.values s).negatives (f p) ((state s).places p) (h p hp));
     }
+
+pub invariant_of-desk : goal.invariant_of-desk
+invariant_of-desk g c = record { free = c.finish.ensures.blank 8 (omega arith) (omega arith) }
