@@ -5,6 +5,8 @@
 
 mod fill;
 mod report;
+#[cfg(test)]
+mod tests;
 
 use fill::{format_of, power_of_four, sparse, two_tables};
 use integers::Integer;
