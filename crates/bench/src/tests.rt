@@ -16,7 +16,11 @@ fn a_running_table_outlives_a_sum(rt: HostRuntime) -> Result<(), Fail> {
     sheet.add(2, 0, 1)?;
     sheet.subtract(3, 2, 1)?;
     sheet.copy(1, 3)?;
+    sheet.differentiate(5, 2, 0)?;
+    sheet.truncate(6, 2, 1, 0)?;
     assert!(rt; sheet.equal(0, 1)?);
+    assert_eq!(rt; sheet.rows(5)?.len(), 1);
+    assert_eq!(rt; sheet.rows(6)?.len(), 1);
     sheet.enter(0, Integer { figure: 7 })?;
     sheet.enter(x, Integer { figure: 1 })?;
     sheet.store(4)?;

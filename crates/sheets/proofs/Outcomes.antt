@@ -14,6 +14,7 @@
 --     outcome                       what a call leaves has the formula that its rows have
 --     theory                        the arithmetic of tables, for the format of a sheet
 use Rattle.std.proofs.Common.{◌≡◌, ℕ, ◌<◌, ◌≤◌, Bool, true, false, cond, eqb, ltb, List, [], ◌∷◌, length, Ok, Err, Result, sym, refl, ap, ◌∙◌, subst, subst₂, ⊎_elim, arith}
+use Rattle.std.proofs.lemmas.List.{nil_from_length}
 use Rattle.std.proofs.lemmas.Bool.{cases_eq, ltb-true, lt-ltb, ne_eqb, and_from, not_from_false, eq-eqb, cond-true, cond-false}
 use Rattle.refusals.specs.declared.Refusal.{Refusal}
 use Rattle.refusals.specs.declared.Refusal.TheVariants.{Place, Rows}
@@ -77,10 +78,6 @@ both-blank s u b d a low high = d a low high ∙ sym (b a low high)
 still-blank : {V : Type 0} {G : Ghosts V} (s u : Worktop V G) → SameWorking s u → Blank s → Blank u
 still-blank s u same b a low high = same a low high ∙ b a low high
 
-no_rows : {V : Type 0} (xs : List (Row V)) → length xs < 1 → xs ≡ []
-no_rows [] h = refl
-no_rows (x ∷ xs) h = absurd (omega arith)
-
 -- a place that has those rows already
 stored_same : {V : Type 0} (s : State V) (r : ℕ) (xs : List (Row V)) → s.places r ≡ xs → stored s r xs ≡ s
 stored_same s r xs is =
@@ -125,7 +122,7 @@ module _ {V : Type 0} {G : Ghosts V} (s : Worktop V G) where
       leaving true e =
           let full = ltb-true (state s).room 1 e in
           let few = few-rows s r in
-          let none : (state s).places r ≡ [] = no_rows ((state s).places r) (omega arith) in
+          let none : (state s).places r ≡ [] = nil_from_length ((state s).places r) (omega arith) in
           stored_same (state s) r [] none
       leaving false e = refl
 
